@@ -1,66 +1,99 @@
--- Laws of one bit of a number, over any width. Assumes nothing.
-use mathlib.Core.Path.{_≡_, refl, sym, ap, ap₂, _∙_, subst}
-use mathlib.Core.Bool.{Bool, true, false, not}
-use Prim.Native.Nat.{ℕ, zero, suc, _+_, _-_, _*_, _/_, _%_, _^_, _≤_, _<_, min, max, zero-le, suc-le-suc}
-use native.Mathlib.Nat.{one-mul, zero-mul, mod-lt, mod-eq-of-lt, add-mul, mul-assoc, mul-comm, not-suc-le-zero, le-of-suc-le-suc, max-eq-right, max-eq-left, min-eq-left, add-zero, zero-add, zero-lt-suc, add-comm}
+-- Laws of one bit of a number, lowest first, over any width.
+use mathlib.Core.Path.{_≡_, refl, sym, ap, _∙_, subst}
+use mathlib.Core.Bool.{Bool, true, false}
+use Prim.Native.Nat.{ℕ, zero, suc, _+_, _-_, _*_, _/_, _%_, _^_, _≤_, _<_}
+use native.Mathlib.Nat.{mod-lt, zero-div, div-one, div-eq-of-lt, lt-of-lt-of-le, two-pow-succ, add-mul, mul-assoc, zero-lt-suc}
+use native.Mathlib.Numerals.{one-add}
 use native.Mathlib.Omega.{arith}
-use lib.Dec.{lit<, eqb, eqb·suc-zero}
-use lib.Pow.{pow-pos, pow-add, shl-exact, high-ones, split, shr-shr}
-use lib.Bits.{bitAnd, bitOr, bitXor, and-high, or-add-and, xor-add-and, and-comm, and-zero-r}
-use Rattle.meaning.specs.Bits.{bit, withBit}
+use lib.Arith.{digits-div, digits-mod, digits-lt, lt-one}
+use lib.Dec.{eqb}
+use lib.Pow.{pow-pos, pow-mono, pow-add, shr-lt, shr-shr, field, mod-mod-pow}
+use Rattle.meaning.specs.Bits.{bit, asBit, withBit}
 
 pub bit-lt : (x i : ℕ) → bit x i < 2
 bit-lt x i = mod-lt (x / 2 ^ i) (zero-lt-suc 1)
 
--- `1 << i` at w bits
-pub one-shl : (w i : ℕ) → i < w → (1 * 2 ^ i) % 2 ^ w ≡ 2 ^ i
-one-shl w i h = shl-exact {a = 1} 1 i w (lit< tt) (omega arith) ∙ one-mul (2 ^ i)
+pub as-lt : (b : Bool) → asBit b < 2
+as-lt true = omega arith
+as-lt false = omega arith
 
--- `x & (1 << i)`
-pub and-pow : (x i : ℕ) → bitAnd x (2 ^ i) ≡ bit x i * 2 ^ i
-and-pow x i = ap (bitAnd x) (sym (high-ones 1 i ∙ one-mul (2 ^ i))) ∙ and-high x 1 i
+-- a bit as a Bool, and back
+pub as-eqb : (b : Bool) → eqb (asBit b) 1 ≡ b
+as-eqb true = refl
+as-eqb false = refl
 
-is-one : (b p : ℕ) → b < 2 → zero < p → not (eqb (b * p) 0) ≡ eqb b 1
-is-one zero p h k = ap (λ (n : ℕ). not (eqb n 0)) (zero-mul p)
-is-one (suc zero) p h (suc-le-suc {m = a} k) = ap (λ (n : ℕ). not (eqb n 0)) (one-mul (suc a)) ∙ ap not (eqb·suc-zero a)
-is-one (suc (suc b)) p h k = absurd (not-suc-le-zero (le-of-suc-le-suc (le-of-suc-le-suc h)))
+pub eqb-as : (x : ℕ) → x < 2 → asBit (eqb x 1) ≡ x
+eqb-as zero h = refl
+eqb-as (suc zero) h = refl
+eqb-as (suc (suc x)) h = absurd (omega arith)
 
--- `x & (1 << i) != 0` at w bits
-pub get-law : (w x i : ℕ) → i < w → not (eqb (bitAnd x ((1 * 2 ^ i) % 2 ^ w)) 0) ≡ eqb (bit x i) 1
-get-law w x i h =
-    ap (λ (n : ℕ). not (eqb (bitAnd x n) 0)) (one-shl w i h) ∙ ap (λ (n : ℕ). not (eqb n 0)) (and-pow x i)
-    ∙ is-one (bit x i) (2 ^ i) (bit-lt x i) (pow-pos i)
+pub bit-none : (i : ℕ) → bit 0 i ≡ 0
+bit-none i = ap (λ (n : ℕ). n % 2) (zero-div (2 ^ i))
 
--- x as the bits above i, bit i and the bits below
-pub parted : (x i : ℕ) → x ≡ withBit x i (bit x i)
-parted x i =
-    let d : x / 2 ^ i / 2 ≡ x / 2 ^ (1 + i) = shr-shr x i 1 ∙ ap (λ (n : ℕ). x / 2 ^ n) (add-comm i 1) in
-    let q : ℕ = x / 2 ^ i / 2 in
-    let e : 2 ^ (1 + i) ≡ 2 * 2 ^ i = pow-add 2 1 i in
-    sym (split x i)
-    ∙ ap (λ (n : ℕ). n * 2 ^ i + x % 2 ^ i) (sym (split (x / 2 ^ i) 1))
-    ∙ omega (arith, add-mul (q * 2) (bit x i) (2 ^ i), mul-assoc q 2 (2 ^ i))
-    ∙ ap₂ (λ (a b : ℕ). a * b + (bit x i * 2 ^ i + x % 2 ^ i)) d (sym e)
+-- bit 0, and bit i + 1 as bit i of the half
+pub bit-zero : (x : ℕ) → bit x 0 ≡ x % 2
+bit-zero x = ap (λ (n : ℕ). n % 2) (div-one x)
 
--- `x | (1 << i)`
-pub or-pow : (x i : ℕ) → bitOr x (2 ^ i) ≡ withBit x i 1
-or-pow x i = omega (arith, or-add-and x (2 ^ i), and-pow x i, parted x i)
+pub bit-suc : (x i : ℕ) → bit x (suc i) ≡ bit (x / 2) i
+bit-suc x i = ap (λ (n : ℕ). n % 2) (ap (λ (n : ℕ). x / 2 ^ n) (sym (one-add i)) ∙ sym (shr-shr x 1 i))
 
--- x and its own bit i have just that bit in common
-and-own : (x i b : ℕ) → b ≡ bit x i → b < 2 → bitAnd x (b * 2 ^ i) ≡ b * 2 ^ i
-and-own x i zero e h = ap (bitAnd x) (zero-mul (2 ^ i)) ∙ and-zero-r x ∙ sym (zero-mul (2 ^ i))
-and-own x i (suc zero) e h = ap (bitAnd x) (one-mul (2 ^ i)) ∙ and-pow x i ∙ ap (λ (b : ℕ). b * 2 ^ i) (sym e)
-and-own x i (suc (suc b)) e h = absurd (not-suc-le-zero (le-of-suc-le-suc (le-of-suc-le-suc h)))
+-- `x >> k`
+pub bit-shr : (x k i : ℕ) → bit (x / 2 ^ k) i ≡ bit x (k + i)
+bit-shr x k i = ap (λ (n : ℕ). n % 2) (shr-shr x k i)
 
--- `x ^ ((1 << i) & x)`
-pub xor-pow : (x i : ℕ) → bitXor x (bitAnd (2 ^ i) x) ≡ withBit x i 0
-xor-pow x i =
-    ap (bitXor x) (and-comm (2 ^ i) x ∙ and-pow x i)
-    ∙ omega (arith, xor-add-and x (bit x i * 2 ^ i), and-own x i (bit x i) refl (bit-lt x i), parted x i)
+-- the n low bits are kept, and a number of n bits has no others
+pub bit-low : (x n i : ℕ) → i < n → bit (x % 2 ^ n) i ≡ bit x i
+bit-low x n i h =
+    let e : n ≡ (n - i - 1 + 1) + i = omega arith in
+    ap (λ (m : ℕ). bit (x % 2 ^ m) i) e ∙ ap (λ (m : ℕ). m % 2) (field x (n - i - 1 + 1) i) ∙ mod-mod-pow (x / 2 ^ i) (n - i - 1) 1
 
--- the two stores at w bits
-pub set-one : (w x i : ℕ) → i < w → bitOr x ((1 * 2 ^ i) % 2 ^ w) ≡ withBit x i 1
-set-one w x i h = ap (bitOr x) (one-shl w i h) ∙ or-pow x i
+pub bit-past : (y n m : ℕ) → y < 2 ^ n → n ≤ m → bit y m ≡ 0
+bit-past y n m h l = ap (λ (k : ℕ). k % 2) (div-eq-of-lt (lt-of-lt-of-le h (pow-mono l)))
 
-pub set-zero : (w x i : ℕ) → i < w → bitXor x (bitAnd ((1 * 2 ^ i) % 2 ^ w) x) ≡ withBit x i 0
-set-zero w x i h = ap (λ (n : ℕ). bitXor x (bitAnd n x)) (one-shl w i h) ∙ xor-pow x i
+-- two numbers of n bits with the same bits are one
+pub number-ext : (n x y : ℕ) → x < 2 ^ n → y < 2 ^ n → ((j : ℕ) → j < n → bit x j ≡ bit y j) → x ≡ y
+number-ext zero x y p q h = lt-one p ∙ sym (lt-one q)
+number-ext (suc n) x y p q h =
+    omega (
+      arith,
+      number-ext n (x / 2) (y / 2) (omega (arith, two-pow-succ n)) (omega (arith, two-pow-succ n))
+          (λ j l. sym (bit-suc x j) ∙ h (suc j) (omega arith) ∙ bit-suc y j),
+      bit-zero x,
+      bit-zero y,
+      h 0 (omega arith),
+    )
+
+-- a number with bit i made b: b there, and elsewhere as it was
+module _ (x i b : ℕ) (h : b < 2) where
+  tail-lt : b * 2 ^ i + x % 2 ^ i < 2 ^ (1 + i)
+  tail-lt = subst (λ (n : ℕ). b * 2 ^ i + x % 2 ^ i < n) (sym (pow-add 2 1 i)) (digits-lt h (mod-lt x (pow-pos i)))
+
+  above : withBit x i b / 2 ^ (1 + i) ≡ x / 2 ^ (1 + i)
+  above = digits-div (x / 2 ^ (1 + i)) tail-lt
+
+  joined : withBit x i b ≡ (x / 2 ^ (1 + i) * 2 + b) * 2 ^ i + x % 2 ^ i
+  joined = omega (arith, add-mul (x / 2 ^ (1 + i) * 2) b (2 ^ i), mul-assoc (x / 2 ^ (1 + i)) 2 (2 ^ i), ap (λ (n : ℕ). x / 2 ^ (1 + i) * n) (pow-add 2 1 i))
+
+  pub bit-set : bit (withBit x i b) i ≡ b
+  bit-set =
+      ap (λ (n : ℕ). n / 2 ^ i % 2) joined ∙ ap (λ (n : ℕ). n % 2) (digits-div (x / 2 ^ (1 + i) * 2 + b) (mod-lt x (pow-pos i)))
+      ∙ digits-mod (x / 2 ^ (1 + i)) h
+
+  pub bit-below : (j : ℕ) → j < i → bit (withBit x i b) j ≡ bit x j
+  bit-below j l =
+      sym (bit-low (withBit x i b) i j l)
+      ∙ ap (λ (n : ℕ). bit n j) (ap (λ (n : ℕ). n % 2 ^ i) joined ∙ digits-mod (x / 2 ^ (1 + i) * 2 + b) (mod-lt x (pow-pos i)))
+      ∙ bit-low x i j l
+
+  pub bit-above : (j : ℕ) → i < j → bit (withBit x i b) j ≡ bit x j
+  bit-above j l =
+      let e : j ≡ 1 + i + (j - (1 + i)) = omega arith in
+      ap (bit (withBit x i b)) e ∙ sym (bit-shr (withBit x i b) (1 + i) (j - (1 + i))) ∙ ap (λ (n : ℕ). bit n (j - (1 + i))) above
+      ∙ bit-shr x (1 + i) (j - (1 + i)) ∙ ap (bit x) (sym e)
+
+  -- and a number of n bits still
+  pub with-lt : (n : ℕ) → i < n → x < 2 ^ n → withBit x i b < 2 ^ n
+  with-lt n l g =
+      let e : n ≡ (n - (1 + i)) + (1 + i) = omega arith in
+      let q : x / 2 ^ (1 + i) < 2 ^ (n - (1 + i)) = shr-lt (n - (1 + i)) (1 + i) (subst (λ (m : ℕ). x < 2 ^ m) e g) in
+      subst (λ (m : ℕ). withBit x i b < m) (sym (ap (λ (m : ℕ). 2 ^ m) e ∙ pow-add 2 (n - (1 + i)) (1 + i))) (digits-lt q tail-lt)

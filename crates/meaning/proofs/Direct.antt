@@ -19,17 +19,14 @@ use Rattle.meaning.specs.Areas.{filled}
 use Rattle.meaning.specs.Refusals.{refuse, check, LowestFull, fullBlock, fullAt, firstOf}
 use Rattle.meaning.specs.Direct.{DictRooms, Entries, dictZeroed, dictRefusal, entriesOf, dictWritten, dictBuild, dictIn, entriesFit, ifFit, mostBits, dictRank, dictSelect, dictPred, dictSucc, DictAccepted}
 use Rattle.meaning.proofs.If.{if-true, if-none, if-some, and-true}
-use Rattle.meaning.proofs.Tab.{length-tab, opens-closes}
+use Rattle.meaning.proofs.Tab.{opens-closes}
+use Rattle.meaning.proofs.Stored.{length-bits}
 use Rattle.meaning.proofs.Rank.{length-pairUp, rank-of}
 use Rattle.meaning.proofs.Nearest.{select-is, pred-is, succ-is}
 use Rattle.meaning.proofs.Narrow.{no-full, Narrow, narrow}
 use Rattle.meaning.proofs.View.{length-filled}
 use Rattle.meaning.proofs.Full.{full-exactly}
 use Rattle.meaning.proofs.Accepted.{check-none, check-true, first-none, done, and, all-none}
-
-length-bits : (ws : List ℕ) (n : ℕ) → length (bitsOf ws n) ≡ n
-unfolding bitsOf
-length-bits ws n = length-tab _ 0 n
 
 full-none : (v : ℕ) (o : Option ℕ) → fullAt v o none ≡ none → o ≡ none
 unfolding fullAt
