@@ -16,7 +16,7 @@ bit-of-requires c κs = search needs
 returns : tie.Need-returns
 unfolding bitAt
 returns c =
-    c .bit-of .ensures ∙ ap (λ (x : ℕ). eqb (bit x (c .before .before .before .args .i % 64)) 1) (c .before .before .word-at .ensures)
+    c .bit-of .ensures ∙ ap (λ (x : ℕ). eqb (bit x (c .before .before .before .args .i % 64)) 1) (c .before .word-at .ensures)
 
 pub bit-at-spec : {M : Type 1} → statement M
 bit-at-spec = tie.close (tie.spec word-at-requires bit-of-requires returns)
