@@ -10,7 +10,7 @@ use Rattle.meaning.specs.Answers.{Refusal}
 use Rattle.meaning.specs.Bits.{opens}
 use Rattle.meaning.specs.String.{string}
 use Rattle.meaning.specs.List.{offending, Rule, greatest}
-use Rattle.meaning.specs.Pioneers.{flags, pioneerString}
+use Rattle.meaning.specs.Pioneers.{flags, pioneerString, higher}
 use Rattle.meaning.specs.Family.{Level, tower}
 use Rattle.meaning.specs.Areas.{Rooms, areaWords, areaBytes, areaMiddle, areaLarge}
 
@@ -46,6 +46,15 @@ fullFrom (suc k) v l =
       | true ↦ none
       | false ↦ fullAt v (fullBlock (length l / 256 + 1) 0 (flags l)) (fullFrom k (suc v) (pioneerString l))
     ]
+
+-- what it says: "5 (lowest level, lowest block)". Level v flags pioneer string v - 1; each lower level has a family without a full block
+pub record LowestLevel (l : List Bool) (v b : ℕ) : Type 0 where
+  pub under : ℕ
+  pub level : v ≡ suc under
+  pub few : under < 4
+  pub long : (j : ℕ) → j ≤ under → 64 < length (higher j l)
+  pub here : LowestFull (flags (higher under l)) b
+  pub lower : (j : ℕ) → j < under → (i : ℕ) → opens (take 256 (drop (256 * i) (flags (higher j l)))) < 256
 
 -- the first refusal counts
 unfoldable pub firstOf : List (Option Refusal) → Option Refusal
