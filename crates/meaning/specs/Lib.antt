@@ -28,3 +28,4 @@ pub mod Open
 pub mod Table
 pub mod Damaged
 pub mod DirectTable
+pub mod StringTable
