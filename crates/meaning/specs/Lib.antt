@@ -29,3 +29,4 @@ pub mod Table
 pub mod Damaged
 pub mod DirectTable
 pub mod StringTable
+pub mod Walking
