@@ -15,7 +15,7 @@ use Rattle.meaning.specs.Match.{closeOf}
 use Rattle.meaning.specs.Family.{tower}
 use Rattle.meaning.specs.Child.{Node, IsNode, child, root}
 use Rattle.meaning.specs.Sibling.{sibling, next}
-use Rattle.meaning.specs.Walk.{lowest, Tells, tell, visits}
+use Rattle.meaning.specs.Walk.{lowest, Tells, tell, visits, AnswersAre}
 use Rattle.meaning.specs.Size.{levelSize, byteSize}
 use Rattle.meaning.specs.Leaves.{leafCount}
 use Rattle.meaning.specs.Areas.{Rooms, filled, countsOf, counted}
@@ -36,14 +36,14 @@ use Rattle.meaning.proofs.Held.{held-close, held-lowest}
 use Rattle.meaning.proofs.Sizes.{size-small}
 use Rattle.meaning.proofs.Lent.{bits-in, counts-fit, sum-counts}
 
-child-id : (l : List Bool) (n m : Node) → child l n ≡ some m → 0 < m .id
+pub child-id : (l : List Bool) (n m : Node) → child l n ≡ some m → 0 < m .id
 child-id l n m e = go (bit (getD l (suc (n .place)) false))
   where
     go : (getD l (suc (n .place)) false ≡ true) ⊎ (getD l (suc (n .place)) false ≡ false) → 0 < m .id
     go (inl b) = let q : record { place = n .place + 1; id = n .id + 1 } ≡ m = cc (child-some l n b) in omega (arith, ap (λ x. x .id) q)
     go (inr b) = let z : _≡_ {A = ℕ} 0 1 = cc (child-none l n b) in absurd (omega arith)
 
-sibling-new-id : (l : List Bool) (c : ℕ) (n m : Node) → sibling l c n ≡ some m → 0 < m .id
+pub sibling-new-id : (l : List Bool) (c : ℕ) (n m : Node) → sibling l c n ≡ some m → 0 < m .id
 sibling-new-id l c n m e = go (bit (getD l (suc c) false))
   where
     go : (getD l (suc c) false ≡ true) ⊎ (getD l (suc c) false ≡ false) → 0 < m .id
@@ -109,19 +109,17 @@ module _ (vs bs : List ℕ) (rooms : Rooms) (a : Accepted vs bs rooms) where
   heard-edge (some m) = refl
 
   -- so a walk by the two questions tells the levels and the labels
+  pub asking-are : AnswersAre (string vs) (asking (treeOf vs) (lentOf vs bs rooms))
+  asking-are =
+      record {
+        kid = λ n i. ap heard (first-child n i) ∙ heard-edge (child (string vs) n);
+        sib = λ n i. ap heard (next-sibling n i) ∙ heard-edge (next (string vs) n);
+      }
+
   pub asking-tells : (k : ℕ) → length vs ≤ k → Tells vs bs (tell (lentOf vs bs rooms .labels) (visits (asking (treeOf vs) (lentOf vs bs rooms)) k (root ∷ [])))
   unfolding lentOf filled
   asking-tells k h =
-      walk-by-tells vs (a .rule) (asking (treeOf vs) (lentOf vs bs rooms))
-      (record {
-        kid = λ n i. ap heard (first-child n i) ∙ heard-edge (child (string vs) n);
-        sib = λ n i. ap heard (next-sibling n i) ∙ heard-edge (next (string vs) n);
-      })
-      bs
-      (replicate (rooms .labels - length bs) 0)
-      (a .same)
-      k
-      h
+      walk-by-tells vs (a .rule) (asking (treeOf vs) (lentOf vs bs rooms)) asking-are bs (replicate (rooms .labels - length bs) 0) (a .same) k h
 
   -- the leaves below a node
   pub leaves-below : (n : Node) → IsNode (string vs) n → leavesBelow (treeOf vs) (lentOf vs bs rooms) n ≡ is (leafCount (string vs) (n .place) (closeOf (string vs) (n .place)))

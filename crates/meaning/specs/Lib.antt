@@ -30,3 +30,4 @@ pub mod Damaged
 pub mod DirectTable
 pub mod StringTable
 pub mod Walking
+pub mod Demands
