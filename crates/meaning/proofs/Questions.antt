@@ -8,10 +8,10 @@ use Prim.Native.Nat.{ℕ, suc, pred, _+_, _*_, _-_, _/_, _<_, _≤_}
 use native.Mathlib.Omega.{arith}
 use lib.ListN.{length, getD, take, replicate, List·getD-append}
 use borrow.Author.Tests.{le-ltb, lt-ltb, eq-eqb}
-use Rattle.meaning.specs.Answers.{is}
+use Rattle.meaning.specs.Answers.{is, provided, orBroken}
 use Rattle.meaning.specs.Bits.{opens}
 use Rattle.meaning.specs.String.{string}
-use Rattle.meaning.specs.Match.{closeOf}
+use Rattle.meaning.specs.Match.{closeOf, IsClose}
 use Rattle.meaning.specs.Family.{tower}
 use Rattle.meaning.specs.Child.{Node, IsNode, child, root}
 use Rattle.meaning.specs.Sibling.{sibling, next}
@@ -22,9 +22,10 @@ use Rattle.meaning.specs.Areas.{Rooms, filled, countsOf, counted}
 use Rattle.meaning.specs.Refusals.{Accepted}
 use Rattle.meaning.specs.Build.{treeOf, lentOf, levelsIn}
 use Rattle.meaning.specs.Growth.{bitsIn}
-use Rattle.meaning.specs.Questions.{edge, nodeRefusal, labelled, firstChild, siblingBy, nextSibling, edgeOf, leavesBy, leavesBelow, countSize, sizeIn, sized, bytesHeld, heard, asking}
+use Rattle.meaning.specs.Questions.{edge, atBit, closeIn, nodeRefusal, labelled, firstChild, siblingBy, nextSibling, edgeOf, leavesBy, leavesBelow, countSize, sizeIn, sized, bytesHeld, heard, asking}
 use Rattle.meaning.proofs.If.{bit, if-true, if-false, if-none}
 use Rattle.meaning.proofs.String.{string-walk, string-length}
+use Rattle.meaning.proofs.Loose.{close-is}
 use Rattle.meaning.proofs.Count.{in-length}
 use Rattle.meaning.proofs.Flag.{matched}
 use Rattle.meaning.proofs.Accepted.{check-true, done, and, all-none}
@@ -68,6 +69,24 @@ module _ (vs bs : List ℕ) (rooms : Rooms) (a : Accepted vs bs rooms) where
       where
         place : n .place < bitsIn (treeOf vs)
         place = omega (arith, bits-in vs bs rooms a, string-length vs (a .rule), in-length (string vs) (n .place) (i .opening))
+
+  -- the close of every open is the matching one
+  pub close-in-matches : (p : ℕ) → getD (string vs) p false ≡ true
+      → (c : ℕ) × (closeIn (treeOf vs) (lentOf vs bs rooms) p ≡ is c) × IsClose (string vs) p c
+  unfolding closeIn atBit provided orBroken
+  close-in-matches p e = (
+    closeOf (string vs) p,
+    rw (
+      counts-fit vs bs rooms a,
+      provided,
+      lt-ltb p (bitsIn (treeOf vs)) (omega (arith, bits-in vs bs rooms a, string-length vs (a .rule), in-length (string vs) p e)),
+      provided,
+      ap (λ l. getD l p false) (held-lowest vs bs rooms (a .rule) (a .few)) ∙ e,
+      provided,
+      held-close vs bs rooms (a .rule) (a .few) p e,
+    ),
+    close-is (string vs) (string-walk vs (a .rule)) p (in-length (string vs) p e) e,
+  )
 
   label-is : (m : Node) → IsNode (string vs) m → 0 < m .id → labelled (treeOf vs) (lentOf vs bs rooms) (some m) ≡ edgeOf bs (some m)
   unfolding labelled edgeOf treeOf lentOf filled

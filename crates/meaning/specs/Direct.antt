@@ -3,14 +3,16 @@ use mathlib.Core.Path.{_≡_}
 use mathlib.Core.Bool.{Bool, true, false, _&&_}
 use mathlib.Core.Option.{Option, none, some}
 use mathlib.Core.List.{List, [], _∷_}
-use Prim.Native.Nat.{ℕ, _+_, _*_, _/_, _≤_}
+use Prim.Native.Nat.{ℕ, _+_, _*_, _-_, _/_, _≤_}
 use lib.Dec.{leb}
-use lib.ListN.{length, take, replicate}
+use lib.ListN.{length, take, drop, replicate}
+use lib.Seq.{sets}
 use Rattle.meaning.specs.Answers.{Refusal, Answer, is, refused, broken, orBroken}
 use Rattle.meaning.specs.Bits.{bitsOf}
 use Rattle.meaning.specs.Dictionary.{Dict, dictOf, rankOf, selectOf, predOf, succOf}
 use Rattle.meaning.specs.Areas.{filled}
 use Rattle.meaning.specs.Refusals.{check, fullBlock, fullAt, firstOf}
+use Rattle.meaning.specs.Questions.{sized}
 
 -- "for a dictionary built directly, bits above 2,097,152"
 abbrev pub mostBits : ℕ
@@ -50,6 +52,19 @@ dictRefusal ws n rooms =
 unfoldable pub entriesOf : Dict → Entries
 entriesOf d = record { bytes = length (d .bytes); middle = length (d .middle) / 2; large = length (d .large) / 2 }
 
+-- The plan, which looks at no area: "BROKEN (a length past its words), MANY, FULL with level 0", else the counts
+unfoldable pub dictPlan : List ℕ → ℕ → Answer Entries
+dictPlan ws n =
+    elim (firstOf
+    (check (leb n (64 * length ws)) 9 (0 ∷ [])
+    ∷ check (leb n mostBits) 2 (n ∷ [])
+    ∷ fullAt 0 (fullBlock (n / 256 + 1) 0 (bitsOf ws n)) none
+    ∷ []))
+    [
+      | none ↦ is (entriesOf (dictOf (bitsOf ws n)))
+      | some r ↦ refused r
+    ]
+
 -- "leaves zeros behind what it uses"
 unfoldable pub dictWritten : DictRooms → Dict → Dict
 dictWritten rooms d =
@@ -65,6 +80,40 @@ dictBuild ws n rooms =
     elim (dictRefusal ws n rooms) [
       | none ↦ record { reply = is (entriesOf (dictOf (bitsOf ws n))); areas = dictWritten rooms (dictOf (bitsOf ws n)) }
       | some r ↦ record { reply = refused r; areas = dictZeroed rooms }
+    ]
+
+-- "1, 4 and 16 per dictionary entry of the three kinds"
+unfoldable pub dictSize : Entries → Answer ℕ
+dictSize e = sized (e .bytes + 4 * e .middle + 16 * e .large)
+
+-- what areas 1 to 3 hold past o entries of each kind
+unfoldable pub dictPast : Entries → Dict → Dict
+dictPast o a = record { bytes = drop (o .bytes) (a .bytes); middle = drop (2 * o .middle) (a .middle); large = drop (2 * o .large) (a .large) }
+
+-- the room there
+unfoldable pub dictRooms : Entries → Dict → DictRooms
+dictRooms o a =
+    record {
+      bytes = length (a .bytes) - o .bytes;
+      middle = length (a .middle) - 2 * o .middle;
+      large = length (a .large) - 2 * o .large;
+    }
+
+-- the areas with a dictionary put there
+unfoldable pub dictPut : Entries → Dict → Dict → Dict
+dictPut o d a =
+    record {
+      bytes = sets (a .bytes) (o .bytes) (d .bytes);
+      middle = sets (a .middle) (2 * o .middle) (d .middle);
+      large = sets (a .large) (2 * o .large) (d .large);
+    }
+
+-- a dictionary written past o entries of each kind, all else as it stood; refused, nothing changes
+unfoldable pub dictWrite : List ℕ → ℕ → Entries → Dict → DictAfter
+dictWrite ws n o a =
+    elim (dictRefusal ws n (dictRooms o a)) [
+      | none ↦ record { reply = is (entriesOf (dictOf (bitsOf ws n))); areas = dictPut o (dictOf (bitsOf ws n)) a }
+      | some r ↦ record { reply = refused r; areas = a }
     ]
 
 -- the dictionary that areas 1 to 3 hold by the record of counts

@@ -2,11 +2,11 @@
 use mathlib.Core.Bool.{Bool, true, false, _&&_}
 use mathlib.Core.Option.{Option, none, some}
 use mathlib.Core.List.{List, [], _∷_, map}
-use Prim.Native.Nat.{ℕ, pred, _+_, _*_, _/_, _^_}
+use Prim.Native.Nat.{ℕ, zero, suc, pred, _+_, _*_, _/_, _^_}
 use lib.Dec.{ltb, leb, eqb}
 use lib.ListN.{length, getD, take}
-use Rattle.meaning.specs.Answers.{Refusal, Answer, is, nothing, refused, broken}
-use Rattle.meaning.specs.Bits.{opens, wordCount}
+use Rattle.meaning.specs.Answers.{Refusal, Answer, is, nothing, refused, place, close, broken, provided, orBroken}
+use Rattle.meaning.specs.Bits.{opens, asBit, wordCount}
 use Rattle.meaning.specs.Close.{closeAt}
 use Rattle.meaning.specs.Child.{Node, child}
 use Rattle.meaning.specs.Sibling.{sibling}
@@ -35,6 +35,22 @@ countsFit t a =
     && leb (2 * sum (map (λ c. c .middle) (t .counts))) (length (a .held .middle))
     && leb (2 * sum (map (λ c. c .large) (t .counts))) (length (a .held .large))
     && leb (t .nodes) (length (a .labels))
+
+-- the five catalogue areas, as a question is lent them
+abbrev pub lentAt : List ℕ → List ℕ → List ℕ → List ℕ → List ℕ → Lent
+lentAt ws bs ms ls labels = record { held = record { words = ws; bytes = bs; middle = ms; large = ls }; labels = labels; scratch = [] }
+
+-- an answer that stands if the counts fit and there is such a bit
+unfoldable pub atBit : Tree → Lent → ℕ → Answer ℕ → Answer ℕ
+atBit t a p x = provided (countsFit t a) broken (provided (ltb p (bitsIn t)) (place p) x)
+
+-- the question of the bit at a place
+unfoldable pub bitIn : Tree → Lent → ℕ → Answer ℕ
+bitIn t a p = atBit t a p (is (asBit (getD (lowest (levelsIn t a)) p false)))
+
+-- the question of the close of the open at a place
+unfoldable pub closeIn : Tree → Lent → ℕ → Answer ℕ
+closeIn t a p = atBit t a p (provided (getD (lowest (levelsIn t a)) p false) (close p) (orBroken (closeAt (levelsIn t a) p)))
 
 -- PLACE: "no such bit, or a node whose id is not the number of opens before its place"; CLOSE: "the place holds a close"
 unfoldable pub nodeRefusal : Tree → Lent → Node → Option Refusal
@@ -108,3 +124,20 @@ sized n = elim (ltb n (2 ^ 64)) [ true ↦ is n | false ↦ refused broken ]
 -- the question of the byte size
 unfoldable pub bytesHeld : Tree → Lent → Answer ℕ
 bytesHeld t a = elim (countsFit t a) [ true ↦ sized (sizeIn t) | false ↦ refused broken ]
+
+-- the question of the number of nodes
+unfoldable pub nodesIn : Tree → Lent → Answer ℕ
+nodesIn t a = provided (countsFit t a) broken (is (t .nodes))
+
+-- whether there is none
+unfoldable pub isEmptyIn : Tree → Lent → Answer Bool
+isEmptyIn t a = provided (countsFit t a) broken (is (eqb (t .nodes) 0))
+
+-- "Node id is k + 1 and its label is label k; the root is id 0", which has none
+unfoldable pub labelOf : Tree → Lent → ℕ → Answer ℕ
+labelOf t a zero = nothing
+labelOf t a (suc k) = provided (ltb k (t .nodes)) broken (is (getD (a .labels) k 0))
+
+-- the question of a node's label
+unfoldable pub labelIn : Tree → Lent → Node → Answer ℕ
+labelIn t a n = elim (nodeRefusal t a n) [ none ↦ labelOf t a (n .id) | some r ↦ refused r ]
