@@ -1,4 +1,4 @@
--- THE END of growth: an accepted list grown by a node that is accepted too, about outcomes.
+-- THE END: the demands about outcomes. Demand 2 of an accepted list, demand 3 of an accepted list grown by a node that is accepted too.
 use mathlib.Core.Path.{_≡_, refl, sym, ap, ap₂, _∙_, subst}
 use mathlib.Core.Bool.{Bool}
 use mathlib.Core.Option.{Option, none, some}
@@ -6,26 +6,31 @@ use mathlib.Core.List.{List, [], _∷_, _++_, append-assoc, append-nil}
 use Prim.Native.Nat.{ℕ, zero, suc, pred, _≤_, _<_}
 use native.Mathlib.Omega.{arith}
 use lib.ListN.{length, getD, take, length-append}
-use Rattle.meaning.specs.Answers.{Answer, is, nothing, refused}
+use Rattle.meaning.specs.Answers.{is, broken, provided}
 use Rattle.meaning.specs.String.{string}
 use Rattle.meaning.specs.Match.{closeOf}
-use Rattle.meaning.specs.Child.{Node, IsNode, child}
+use Rattle.meaning.specs.Child.{Node, IsNode, child, root}
 use Rattle.meaning.specs.Sibling.{next}
 use Rattle.meaning.specs.Walk.{Answers, plain, AnswersAre}
+use Rattle.meaning.specs.Kin.{nodeAt}
 use Rattle.meaning.specs.Areas.{Rooms}
 use Rattle.meaning.specs.Refusals.{refusal, Accepted}
 use Rattle.meaning.specs.Build.{After, treeOf, lentOf, build}
 use Rattle.meaning.specs.Growth.{grow}
-use Rattle.meaning.specs.Questions.{edge, asking, edgeOf}
+use Rattle.meaning.specs.Questions.{edge, nodesIn, asking, edgeOf}
 use Rattle.meaning.specs.Change.{Question, childOf, siblingOf, asked, answer, AnswersGrow}
-use Rattle.meaning.specs.Demands.{growOn, growths, edgeIn, Grows}
+use Rattle.meaning.specs.Demands.{Answered, growOn, growths, edgeIn, Grows}
 use Rattle.meaning.proofs.If.{if-none}
 use Rattle.meaning.proofs.String.{string-walk}
 use Rattle.meaning.proofs.Nodes.{next-node, child-node}
+use Rattle.meaning.proofs.Kin.{node-of, kin, root-kin}
+use Rattle.meaning.proofs.Leaves.{leaf-count, leaf-count-root}
+use Rattle.meaning.proofs.Lent.{counts-fit}
+use Rattle.meaning.proofs.Walking.{walk-returns}
 use Rattle.meaning.proofs.Accepted.{accepted-exactly}
 use Rattle.meaning.proofs.Change.{answers-grow}
 use Rattle.meaning.proofs.Stepped.{grow-by}
-use Rattle.meaning.proofs.Questions.{child-id, sibling-new-id, first-child, next-sibling, asking-are}
+use Rattle.meaning.proofs.Questions.{close-in-matches, child-id, sibling-new-id, first-child, next-sibling, asking-are, leaves-below, bytes-held}
 use Rattle.meaning.proofs.Agree.{agree}
 use Rattle.meaning.proofs.Growth.{grow-is}
 
@@ -33,6 +38,29 @@ use Rattle.meaning.proofs.Growth.{grow-is}
 pub build-is : (vs bs : List ℕ) (rooms : Rooms) → Accepted vs bs rooms → build vs bs rooms ≡ record { reply = is (treeOf vs); areas = lentOf vs bs rooms }
 unfolding build
 build-is vs bs rooms a = if-none _ _ (accepted-exactly vs bs rooms .1 a)
+
+-- Demand 2
+pub answered : (vs bs : List ℕ) (rooms : Rooms) → Accepted vs bs rooms → (o : After) → o ≡ build vs bs rooms → Answered vs bs o
+unfolding edgeOf nodeAt nodesIn provided treeOf
+answered vs bs rooms a o e =
+    subst (Answered vs bs) (sym (e ∙ build-is vs bs rooms a))
+    (record {
+      tree = treeOf vs;
+      built = refl;
+      close = close-in-matches vs bs rooms a;
+      walk = walk-returns vs bs rooms a;
+      child = λ k h i. first-child vs bs rooms a (nodeAt vs k) (node-of vs (a .rule) k h) ∙ ap (edgeOf bs) (kin vs (a .rule) k h .kid i);
+      no-child = λ k h i. first-child vs bs rooms a (nodeAt vs k) (node-of vs (a .rule) k h) ∙ ap (edgeOf bs) (kin vs (a .rule) k h .no-kid i);
+      sibling = λ k h i. next-sibling vs bs rooms a (nodeAt vs k) (node-of vs (a .rule) k h) ∙ ap (edgeOf bs) (kin vs (a .rule) k h .sib i);
+      no-sibling = λ k h i. next-sibling vs bs rooms a (nodeAt vs k) (node-of vs (a .rule) k h) ∙ ap (edgeOf bs) (kin vs (a .rule) k h .no-sib i);
+      root-child = λ h. first-child vs bs rooms a root (root-kin vs (a .rule) .is) ∙ ap (edgeOf bs) (root-kin vs (a .rule) .kid h);
+      root-no-child = λ h. first-child vs bs rooms a root (root-kin vs (a .rule) .is) ∙ ap (edgeOf bs) (root-kin vs (a .rule) .no-kid h);
+      root-no-sibling = next-sibling vs bs rooms a root (root-kin vs (a .rule) .is) ∙ ap (edgeOf bs) (root-kin vs (a .rule) .no-sib);
+      nodes = ap (λ t. provided t broken (is (length vs))) (counts-fit vs bs rooms a);
+      size = bytes-held vs bs rooms a;
+      leaves = λ k h. leaves-below vs bs rooms a (nodeAt vs k) (node-of vs (a .rule) k h) ∙ ap is (leaf-count vs (a .rule) k h);
+      root-leaves = leaves-below vs bs rooms a root (root-kin vs (a .rule) .is) ∙ ap is (leaf-count-root vs (a .rule));
+    })
 
 -- the edge of a question, by the string
 edge-is : (vs bs : List ℕ) (rooms : Rooms) → Accepted vs bs rooms → (q : Question) → IsNode (string vs) (asked q)
