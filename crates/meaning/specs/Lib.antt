@@ -31,3 +31,4 @@ pub mod DirectTable
 pub mod StringTable
 pub mod Walking
 pub mod Demands
+pub mod Bounds
