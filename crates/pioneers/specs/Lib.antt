@@ -1,0 +1,5 @@
+pub mod Pick
+pub mod Placed
+pub mod Turn
+pub mod Scratch
+pub mod Keep
