@@ -1,13 +1,14 @@
 -- Laws of one bit of a number, lowest first, over any width.
-use mathlib.Core.Path.{_≡_, refl, sym, ap, _∙_, subst}
+use mathlib.Core.Path.{_≡_, refl, sym, ap, ap₂, _∙_, subst}
 use mathlib.Core.Bool.{Bool, true, false}
-use Prim.Native.Nat.{ℕ, zero, suc, _+_, _-_, _*_, _/_, _%_, _^_, _≤_, _<_}
-use native.Mathlib.Nat.{mod-lt, zero-div, div-one, div-eq-of-lt, lt-of-lt-of-le, two-pow-succ, add-mul, mul-assoc, zero-lt-suc}
+use Prim.Native.Nat.{ℕ, zero, suc, _+_, _-_, _*_, _/_, _%_, _^_, _≤_, _<_, max, suc-le-suc}
+use native.Mathlib.Nat.{add-comm, add-mul, div-eq-of-lt, div-one, le-of-suc-le-suc, lt-of-lt-of-le, max-le, mod-lt, mul-assoc, not-suc-le-zero, two-pow-succ, zero-div, zero-lt-suc}
 use native.Mathlib.Numerals.{one-add}
 use native.Mathlib.Omega.{arith}
 use lib.Arith.{digits-div, digits-mod, digits-lt, lt-one}
+use lib.Bits.{bitOr, or-shr, or-step}
 use lib.Dec.{eqb}
-use lib.Pow.{pow-pos, pow-mono, pow-add, shr-lt, shr-shr, field, mod-mod-pow}
+use lib.Pow.{pow-pos, pow-mono, pow-add, shr-lt, shr-shr, split, field, mod-mod-pow}
 use Rattle.meaning.specs.Bits.{bit, asBit, withBit}
 
 pub bit-lt : (x i : ℕ) → bit x i < 2
@@ -97,3 +98,43 @@ module _ (x i b : ℕ) (h : b < 2) where
       let e : n ≡ (n - (1 + i)) + (1 + i) = omega arith in
       let q : x / 2 ^ (1 + i) < 2 ^ (n - (1 + i)) = shr-lt (n - (1 + i)) (1 + i) (subst (λ (m : ℕ). x < 2 ^ m) e g) in
       subst (λ (m : ℕ). withBit x i b < m) (sym (ap (λ (m : ℕ). 2 ^ m) e ∙ pow-add 2 (n - (1 + i)) (1 + i))) (digits-lt q tail-lt)
+
+pub bit-of-zero : (y m : ℕ) → y ≡ 0 → bit y m ≡ 0
+bit-of-zero y m e = ap (λ (n : ℕ). bit n m) e ∙ ap (λ (n : ℕ). n % 2) (zero-div (2 ^ m))
+
+-- x as the bits above i, bit i and the bits below
+pub parted : (x i : ℕ) → x ≡ withBit x i (bit x i)
+parted x i =
+    let d : x / 2 ^ i / 2 ≡ x / 2 ^ (1 + i) = shr-shr x i 1 ∙ ap (λ (n : ℕ). x / 2 ^ n) (add-comm i 1) in
+    let q : ℕ = x / 2 ^ i / 2 in
+    let e : 2 ^ (1 + i) ≡ 2 * 2 ^ i = pow-add 2 1 i in
+    sym (split x i)
+    ∙ ap (λ (n : ℕ). n * 2 ^ i + x % 2 ^ i) (sym (split (x / 2 ^ i) 1))
+    ∙ omega (arith, add-mul (q * 2) (bit x i) (2 ^ i), mul-assoc q 2 (2 ^ i))
+    ∙ ap₂ (λ (a b : ℕ). a * b + (bit x i * 2 ^ i + x % 2 ^ i)) d (sym e)
+
+max-lt : (a b : ℕ) → a < 2 → b < 2 → max a b < 2
+max-lt a b p q = suc-le-suc (max-le (le-of-suc-le-suc p) (le-of-suc-le-suc q))
+
+-- a bit of `a | b`
+pub bit-or : (a b i : ℕ) → bit (bitOr a b) i ≡ max (bit a i) (bit b i)
+bit-or a b i =
+    ap (λ (n : ℕ). n % 2) (or-shr a b i ∙ or-step (a / 2 ^ i) (b / 2 ^ i))
+    ∙ digits-mod (bitOr (a / 2 ^ i / 2) (b / 2 ^ i / 2)) (max-lt (bit a i) (bit b i) (bit-lt a i) (bit-lt b i))
+
+-- stated of any p, so that omega has few facts in reach
+pub odd-not : (p x : ℕ) → x < p + p → (p + p - 1 - x) % 2 ≡ 1 - x % 2
+odd-not p x h = omega arith
+
+pub half-not : (w x : ℕ) → x < 2 ^ suc w → (2 ^ suc w - 1 - x) / 2 ≡ 2 ^ w - 1 - x / 2
+half-not w x h = omega (arith, two-pow-succ w)
+
+-- a bit of `!x` at w bits
+pub bit-not : (w x i : ℕ) → x < 2 ^ w → i < w → bit (2 ^ w - 1 - x) i ≡ 1 - bit x i
+bit-not zero x i h l = absurd (not-suc-le-zero l)
+bit-not (suc w) x zero h l =
+    bit-zero (2 ^ suc w - 1 - x) ∙ ap (λ (p : ℕ). (p - 1 - x) % 2) (two-pow-succ w)
+    ∙ odd-not (2 ^ w) x (subst (λ (p : ℕ). x < p) (two-pow-succ w) h) ∙ ap (λ (n : ℕ). 1 - n) (sym (bit-zero x))
+bit-not (suc w) x (suc i) h l =
+    bit-suc (2 ^ suc w - 1 - x) i ∙ ap (λ (n : ℕ). bit n i) (half-not w x h)
+    ∙ bit-not w (x / 2) i (omega (arith, two-pow-succ w)) (omega arith) ∙ ap (λ (n : ℕ). 1 - n) (sym (bit-suc x i))

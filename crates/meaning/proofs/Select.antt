@@ -10,11 +10,12 @@ use lib.Dec.{ltb}
 use lib.ListN.{length, getD, take, drop, length-take, length-drop}
 use lib.Seq.{getD-take, getD-drop, drop-drop}
 use borrow.Author.Tests.{le-leb, lt-leb, lt-ltb, ltb-true}
-use Rattle.meaning.specs.Answers.{Answer, is, nothing, refused, broken}
+use Rattle.meaning.specs.Answers.{Answer, is, nothing, refused}
 use Rattle.meaning.specs.Bits.{opens, places}
 use Rattle.meaning.specs.Plain.{item}
 use Rattle.meaning.specs.Dictionary.{Dict, endOf, block, bytesOf, onesTo, pairUp, dictOf, dictWith, largePos, largeRank, middlePos, middleRank, blockCount, nth, plus, selectWalk, before, isEmpty, placed, selectOf, selectStart, selectFrom, startLarge, startMiddle}
 use Rattle.meaning.proofs.If.{if-true, if-false}
+use Rattle.meaning.proofs.Plain.{place-at}
 use Rattle.meaning.proofs.Rank.{length-places, past-end, even-entry, ones-le, sum-rank, length-pairUp, start-at, not-empty}
 
 place-in : (r : ℕ) (s t : List ℕ) → r < length s → item r (s ++ t) ≡ nth r (s ++ t)
@@ -310,15 +311,6 @@ select-with l (suc n) r small cover = if-false _ _ (not-empty l n) ∙ ap placed
 pub select-of : (l : List Bool) (r : ℕ) → length l < 2 ^ 64 → selectOf (dictOf l) (suc r) ≡ item r (places 0 l)
 unfolding dictOf blockCount
 select-of l r small = select-with l (blockCount l) r small (omega arith)
-
--- the one at item i
-pub place-at : (l : List Bool) (j i : ℕ) → getD l i false ≡ true → item (opens (take i l)) (places j l) ≡ is (j + i)
-unfolding item places opens
-place-at [] j i e = absurd (let z : _≡_ {A = ℕ} 0 1 = cc in omega arith)
-place-at (true ∷ l) j zero e = ap is (sym (add-zero j))
-place-at (false ∷ l) j zero e = absurd (let z : _≡_ {A = ℕ} 0 1 = cc in omega arith)
-place-at (true ∷ l) j (suc i) e = place-at l (suc j) i e ∙ ap is (omega arith)
-place-at (false ∷ l) j (suc i) e = place-at l (suc j) i e ∙ ap is (omega arith)
 
 pub select-at : (l : List Bool) (i : ℕ) → length l < 2 ^ 64 → getD l i false ≡ true → selectOf (dictOf l) (suc (opens (take i l))) ≡ is i
 select-at l i small e = select-of l (opens (take i l)) small ∙ place-at l 0 i e ∙ ap is (omega arith)

@@ -1,7 +1,7 @@
 -- The bit string: words with a length. "Bits past the length read as zeros, but the zero questions do not count them".
 use mathlib.Core.Bool.{Bool, true, false, _&&_}
-use mathlib.Core.List.{List}
-use Prim.Native.Nat.{ℕ, suc, _+_, _-_, _*_, _^_}
+use mathlib.Core.List.{List, [], _∷_}
+use Prim.Native.Nat.{ℕ, zero, suc, _+_, _-_, _*_, _^_}
 use lib.Dec.{ltb, leb}
 use lib.ListN.{length}
 use Rattle.meaning.specs.Answers.{Answer, is, nothing, refused, Refusal, place, room, broken, provided}
@@ -70,3 +70,22 @@ resized ws n m = elim (ltb m n) [ true ↦ cleared ws m (n - m) | false ↦ clea
 
 unfoldable pub stringResize : List ℕ → ℕ → ℕ → Edited
 stringResize ws n m = editIf (held ws n) broken ws (editIf (held ws m) (room 0) ws (edited (is m) (resized ws n m)))
+
+-- a one that `OneIndices` meets, and the place from which it goes on
+pub record Met : Type 0 where
+  pub place : ℕ
+  pub next : ℕ
+
+unfoldable pub metAt : Answer ℕ → Answer Met
+metAt (is j) = is (record { place = j; next = suc j })
+metAt nothing = nothing
+metAt (refused r) = refused r
+
+-- its step from place i: the first one at or after i
+unfoldable pub oneFrom : List ℕ → ℕ → ℕ → Answer Met
+oneFrom ws n i = metAt (stringSucc true ws n i)
+
+-- the ones that it meets in at most k steps from place i
+unfoldable pub oneIndices : List ℕ → ℕ → ℕ → ℕ → List ℕ
+oneIndices ws n zero i = []
+oneIndices ws n (suc k) i = elim (oneFrom ws n i) [ is m ↦ m .place ∷ oneIndices ws n k (m .next) | nothing ↦ [] | refused r ↦ [] ]

@@ -1,5 +1,6 @@
 pub mod Answers
 pub mod Bits
+pub mod Count
 pub mod Plain
 pub mod String
 pub mod List

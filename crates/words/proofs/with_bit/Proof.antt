@@ -1,6 +1,6 @@
 -- `words::with_bit` meets its contract. Assumes nothing.
 use borrow.Author.Needs.{needs}
-use Rattle.meaning.proofs.BitOps.{set-one, set-zero}
+use Rattle.meaning.proofs.Mask.{set-one, set-zero}
 use Rattle.words.proofs.with_bit.Statement.{statement}
 use Rattle.words.proofs.with_bit.Tie as tie
 

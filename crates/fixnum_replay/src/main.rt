@@ -1,0 +1,153 @@
+// Replays the recorded answers of the original about single words, and compares each with what fixnum answers. Where 01 differs from the
+// original the answer is 01's, and the record is held to what the original does there. The input is testdata/fixnum8.txt, whole, and every
+// fifth line of testdata/fixnum64.txt.
+mod asked;
+mod entry;
+
+use asked::Word;
+use asked::asked;
+use asked::length;
+use entry::Entry;
+use entry::begins;
+use entry::next_entry;
+use entry::same;
+
+// Where the reading stands, how many answers were compared, and how many were different.
+struct Run {
+    at: usize,
+    answers: u64,
+    different: u64,
+}
+
+// An answer or a part of a line's form that is not as it should be.
+fn wrong(r: Run, at: usize) -> Run {
+    Run {
+        at,
+        answers: r.answers,
+        different: std::num::wrapping_add_u64(r.different, 1),
+    }
+}
+
+// One answer, ended by the byte `stop`.
+fn compare(text: &[u8], r: Run, want: Entry, stop: u8) -> Run {
+    let got = next_entry(text, r.at);
+    let next = Run {
+        at: got.next,
+        answers: std::num::wrapping_add_u64(r.answers, 1),
+        different: r.different,
+    };
+    if got.stop != stop {
+        return wrong(next, next.at);
+    }
+    let found = got.entry;
+    if same(found, want) {
+        return next;
+    }
+    wrong(next, next.at)
+}
+
+// Field f of a line: the answers to one question, at every place or rank.
+fn field(text: &[u8], r: Run, word: Word, f: usize) -> Run {
+    let n = length(word, f);
+    let last = if f == 13 { b'\n' } else { b'\t' };
+    let mut run = r;
+    let mut i: usize = 0;
+    while i < n {
+        let stop = if i + 1 == n { last } else { b' ' };
+        run = compare(text, run, asked(word, f, i), stop);
+        i += 1;
+    }
+    run
+}
+
+// The answers about one word.
+fn fields(text: &[u8], r: Run, word: Word) -> Run {
+    let mut run = r;
+    let mut f: usize = 1;
+    while f <= 13 {
+        run = field(text, run, word, f);
+        f += 1;
+    }
+    run
+}
+
+// The value of a line's word, and then its answers.
+fn value(text: &[u8], r: Run, wide: bool) -> Run {
+    let got = next_entry(text, r.at);
+    let next = Run {
+        at: got.next,
+        answers: r.answers,
+        different: r.different,
+    };
+    if got.stop != b'\t' {
+        return wrong(next, next.at);
+    }
+    let e = got.entry;
+    let Entry::Number(x) = e else {
+        return wrong(next, next.at);
+    };
+    if wide {
+        return fields(text, next, Word { wide, x });
+    }
+    if 255 < x {
+        return wrong(next, next.at);
+    }
+    fields(text, next, Word { wide, x })
+}
+
+// One line.
+fn line(text: &[u8], r: Run) -> Run {
+    let at = r.at;
+    if begins(text, at, b"all8\t") {
+        return value(
+            text,
+            Run {
+                at: std::num::wrapping_add_usize(at, 5),
+                answers: r.answers,
+                different: r.different,
+            },
+            false,
+        );
+    }
+    if begins(text, at, b"all64\t") {
+        return value(
+            text,
+            Run {
+                at: std::num::wrapping_add_usize(at, 6),
+                answers: r.answers,
+                different: r.different,
+            },
+            true,
+        );
+    }
+    wrong(r, text.len())
+}
+
+// All lines. A line is never empty, so the reading gets on.
+fn replay(text: &[u8]) -> Run {
+    let mut run = Run {
+        at: 0,
+        answers: 0,
+        different: 0,
+    };
+    let mut at = 0;
+    while at < text.len() {
+        run = line(text, run);
+        if run.at <= at {
+            return wrong(run, at);
+        }
+        at = run.at;
+    }
+    run
+}
+
+fn main() {
+    let mut text = [0u8; 262144];
+    let n = io::read_full(0, &mut text);
+    let run = replay(&text[..n]);
+    io::write_all(1, b"fixnum: ");
+    io::print_decimal(1, run.answers);
+    io::write_all(1, b" answers, ");
+    io::print_decimal(1, run.different);
+    io::write_all(1, b" different\n");
+}
