@@ -16,7 +16,7 @@ use Rattle.meaning.specs.Family.{tower}
 use Rattle.meaning.specs.Areas.{Rooms, filled, written, counted}
 use Rattle.meaning.specs.Refusals.{check, checks, firstOf, refusal, Accepted}
 use Rattle.meaning.specs.Build.{roomsOf, treeOf, lentOf, build, After, answersIn}
-use Rattle.meaning.specs.Growth.{grown, grownTower, oneRoot, levelsOf, bitsIn, sound, growRefusal, grow}
+use Rattle.meaning.specs.Growth.{grown, grownTower, oneRoot, levelsOf, bitsIn, soundIn, sound, growRefusal, grow}
 use Rattle.meaning.specs.Change.{AnswersGrow}
 use Rattle.meaning.proofs.If.{and-true, if-none, if-some}
 use Rattle.meaning.proofs.Levels.{levels-of}
@@ -33,7 +33,7 @@ module _ (vs bs : List ℕ) (rooms : Rooms) (a : Accepted vs bs rooms) where
   string-in = ap (bitsOf (lentOf vs bs rooms .held .words)) (bits-in vs bs rooms a) ∙ held-string vs bs rooms (a .rule) (a .few)
 
   is-sound : sound (treeOf vs) (lentOf vs bs rooms) ≡ true
-  unfolding sound treeOf
+  unfolding sound soundIn treeOf
   is-sound =
       and-true (and-true (le-leb _ _ (words-fit vs bs rooms a)) (eq-eqb _ _ (bits-in vs bs rooms a)))
       (ap oneRoot string-in ∙ one-root-test (string vs) .1 (string-one-root vs (a .rule)))

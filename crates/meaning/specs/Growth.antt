@@ -65,10 +65,13 @@ firstBits (c ∷ cs) = c .bits
 abbrev pub bitsIn : Tree → ℕ
 bitsIn t = firstBits (t .counts)
 
--- "BROKEN if it is past area 0, not balanced under one root or its count disagrees"
+-- "BROKEN if it is past area 0, not balanced under one root or its count disagrees": m bits in the words, for n nodes
+unfoldable pub soundIn : List ℕ → ℕ → ℕ → Bool
+soundIn ws n m = leb (wordCount m) (length ws) && eqb m (2 * n + 2) && oneRoot (bitsOf ws m)
+
+-- by the record of counts
 unfoldable pub sound : Tree → Lent → Bool
-sound t a =
-    leb (wordCount (bitsIn t)) (length (a .held .words)) && eqb (bitsIn t) (2 * t .nodes + 2) && oneRoot (bitsOf (a .held .words) (bitsIn t))
+sound t a = soundIn (a .held .words) (t .nodes) (bitsIn t)
 
 -- "then 2, 3 and so on for the longer list"
 unfoldable pub growRefusal : Tree → Lent → ℕ → Option Refusal

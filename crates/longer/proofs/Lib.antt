@@ -1,0 +1,4 @@
+pub mod Sounds
+pub mod Last
+pub mod Copies
+pub mod Growing
