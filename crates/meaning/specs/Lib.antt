@@ -25,6 +25,8 @@ pub mod Growth
 pub mod Change
 pub mod Questions
 pub mod Direct
+pub mod Quoted
+pub mod Listing
 pub mod Open
 pub mod Table
 pub mod Damaged
@@ -33,3 +35,4 @@ pub mod StringTable
 pub mod Walking
 pub mod Demands
 pub mod Bounds
+pub mod ListingTable

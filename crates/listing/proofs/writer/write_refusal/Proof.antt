@@ -1,0 +1,71 @@
+-- `listing::writer::write_refusal` meets its contract.
+use Rattle.meaning.specs.Quoted.{quoted}
+use Rattle.listing.proofs.Putting.{next, halted, told}
+use Rattle.listing.proofs.Pieces.{refusal-put}
+use borrow.Author.Needs.{needs}
+use Rattle.listing.proofs.writer.write_refusal.Statement.{statement}
+use Rattle.listing.proofs.writer.write_refusal.Tie as tie
+
+slice-aggregate-write-bytes : tie.Need-slice-aggregate-write-bytes
+slice-aggregate-write-bytes c = search needs
+
+write-bytes-requires : tie.Need-write-bytes-requires
+write-bytes-requires c κs = search needs
+
+enum-known-p : tie.Need-enum-known-p
+enum-known-p c = search needs
+
+enum-told : tie.Need-enum-told
+enum-told c = search needs
+
+same-length : tie.Need-same-length
+same-length c = search needs
+
+returns : tie.Need-returns
+unfolding quoted
+returns c = search (refusal-put, halted, needs)
+
+write-field-requires : tie.Need-write-field-requires
+write-field-requires c κs = search needs
+
+enum-known-q : tie.Need-enum-known-q
+enum-known-q c = search needs
+
+enum-told-2 : tie.Need-enum-told-2
+enum-told-2 c = search needs
+
+same-length-2 : tie.Need-same-length-2
+same-length-2 c = search needs
+
+returns-2 : tie.Need-returns-2
+unfolding quoted
+returns-2 c = search (refusal-put, next, halted, needs)
+
+write-carried-requires : tie.Need-write-carried-requires
+write-carried-requires c κs = search needs
+
+same-length-3 : tie.Need-same-length-3
+same-length-3 c = search needs
+
+returns-3 : tie.Need-returns-3
+unfolding quoted
+returns-3 c = search (refusal-put, next, told, needs)
+
+pub write-refusal-spec : {M : Type 1} → statement M
+write-refusal-spec =
+    tie.close
+    (tie.spec
+    slice-aggregate-write-bytes
+    write-bytes-requires
+    enum-known-p
+    enum-told
+    same-length
+    returns
+    write-field-requires
+    enum-known-q
+    enum-told-2
+    same-length-2
+    returns-2
+    write-carried-requires
+    same-length-3
+    returns-3)
