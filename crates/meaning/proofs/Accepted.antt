@@ -9,7 +9,7 @@ use native.Mathlib.Omega.{arith}
 use borrow.Author.Tests.{le-leb, leb-true, eq-eqb, eqb-true}
 use Rattle.meaning.specs.Answers.{Refusal}
 use Rattle.meaning.specs.Areas.{Rooms}
-use Rattle.meaning.specs.Refusals.{check, firstOf, levelRule, checks, refusal, Accepted}
+use Rattle.meaning.specs.Refusals.{refuse, check, firstOf, levelRule, checks, refusal, Accepted}
 use Rattle.meaning.proofs.Offending.{offending-none}
 
 pub check-none : (b : Bool) (n : ℕ) (l : List ℕ) → check b n l ≡ none → b ≡ true
@@ -20,6 +20,10 @@ check-none false n l e = absurd (let z : _≡_ {A = ℕ} 0 1 = cc in omega arith
 pub check-true : {b : Bool} (n : ℕ) (l : List ℕ) → b ≡ true → check b n l ≡ none
 unfolding check
 check-true n l e = rw (e, check)
+
+pub check-false : {b : Bool} (n : ℕ) (l : List ℕ) → b ≡ false → check b n l ≡ refuse n l
+unfolding check
+check-false n l e = rw (e, check)
 
 level-none : (o : Option ℕ) → levelRule o ≡ none → o ≡ none
 unfolding levelRule

@@ -26,9 +26,9 @@ use Rattle.meaning.proofs.Nearest.{select-is, pred-is, succ-is}
 use Rattle.meaning.proofs.Narrow.{no-full, Narrow, narrow}
 use Rattle.meaning.proofs.View.{length-filled}
 use Rattle.meaning.proofs.Full.{full-exactly}
-use Rattle.meaning.proofs.Accepted.{check-none, check-true, first-none, done, and, all-none}
+use Rattle.meaning.proofs.Accepted.{check-none, check-true, check-false, first-none, done, and, all-none}
 
-full-none : (v : ℕ) (o : Option ℕ) → fullAt v o none ≡ none → o ≡ none
+pub full-none : (v : ℕ) (o : Option ℕ) → fullAt v o none ≡ none → o ≡ none
 unfolding fullAt
 full-none v none e = refl
 full-none v (some b) e = absurd (let z : _≡_ {A = ℕ} 0 1 = cc in omega arith)
@@ -158,10 +158,6 @@ module _ (ws : List ℕ) (n : ℕ) (rooms : DictRooms) where
         (length-filled (rooms .bytes) (d .bytes) (a .bytes), length-filled (rooms .middle) (d .middle) (a .middle), length-filled (rooms .large) (d .large) (a .large))
 
   -- each refusal, in the order of the checks
-  check-false : {b : Bool} (k : ℕ) (l : List ℕ) → b ≡ false → check b k l ≡ refuse k l
-  unfolding check
-  check-false k l e = rw (e, check)
-
   pub direct-broken : 64 * length ws < n → dictRefusal ws n rooms ≡ refuse 9 (0 ∷ [])
   unfolding dictRefusal firstOf
   direct-broken h = rw (check-false 9 (0 ∷ []) (lt-leb n (64 * length ws) h))

@@ -1,0 +1,13 @@
+pub mod Lists
+pub mod Ranks
+pub mod Starts
+pub mod Seeks
+pub mod Selects
+pub mod Asked
+pub mod Parts
+pub mod Blocks
+pub mod Stretches
+pub mod Planning
+pub mod Plans
+pub mod Stores
+pub mod Writes

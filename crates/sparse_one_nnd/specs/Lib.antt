@@ -1,0 +1,4 @@
+pub mod Said
+pub mod Start
+pub mod Blocks
+pub mod Writing
