@@ -61,7 +61,7 @@ module _ (l : List Bool) (w : Walk 0 l 0) (b : ℕ) (h : length l ≤ 64 * b) wh
   unfolding dictOf dictWith
   large-few = omega (arith, blocks-few, length-pairUp (largePos (flags l)) (largeRank (flags l)) 0 ((blockCount (flags l) + 255) / 256))
 
-tower-within : (k : ℕ) (l : List Bool) → Walk 0 l 0 → (b : ℕ) → length l ≤ 64 * b → Within (tower k l) (wordsUp k b) (bytesUp k b) (middleUp k b) (largeUp k b)
+pub tower-within : (k : ℕ) (l : List Bool) → Walk 0 l 0 → (b : ℕ) → length l ≤ 64 * b → Within (tower k l) (wordsUp k b) (bytesUp k b) (middleUp k b) (largeUp k b)
 unfolding tower wordsUp bytesUp middleUp largeUp pioneerString areaWords areaBytes areaMiddle areaLarge joined
 tower-within zero l w b h = last-within l b h
 tower-within (suc k) l w b h =
