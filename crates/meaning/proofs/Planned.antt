@@ -15,7 +15,7 @@ use Rattle.meaning.specs.Bits.{bitsOf}
 use Rattle.meaning.specs.Dictionary.{Dict, dictOf}
 use Rattle.meaning.specs.Areas.{filled}
 use Rattle.meaning.specs.Refusals.{refuse, check, fullBlock, fullAt, firstOf}
-use Rattle.meaning.specs.Direct.{DictRooms, Entries, DictAccepted, mostBits, dictRefusal, entriesOf, dictPlan, dictWritten, dictZeroed, dictBuild, dictRooms, dictPut, dictWrite}
+use Rattle.meaning.specs.Direct.{DictRooms, Entries, DictAfter, DictAccepted, mostBits, dictRefusal, entriesOf, dictPlan, dictWritten, dictZeroed, dictBuild, dictRooms, dictPut, dictWrite}
 use Rattle.meaning.proofs.If.{if-none, if-some}
 use Rattle.meaning.proofs.Accepted.{check-none, check-true, check-false, first-none}
 use Rattle.meaning.proofs.Direct.{full-none, dict-exactly}
@@ -188,3 +188,21 @@ module _ (ws : List ℕ) (n : ℕ) (rooms : DictRooms) where
           ∙ ap (λ (d : Dict). record { reply = is (entriesOf (dictOf (bitsOf ws n))); areas = d }) (put-zeros (dict-exactly ws n rooms .0 e))
           ∙ sym (if-none _ _ e)
       go (some r) e = if-some _ _ r (ap (dictRefusal ws n) same-rooms ∙ e) ∙ sym (if-some _ _ r e)
+
+-- a build that answers counts was accepted, and left the dictionary of the string
+pub built-is : (ws : List ℕ) (n : ℕ) (rooms : DictRooms) (e : Entries) (a : Dict) → record { reply = is e; areas = a } ≡ dictBuild ws n rooms
+    → DictAccepted ws n rooms × (e ≡ entriesOf (dictOf (bitsOf ws n))) × (a ≡ dictWritten rooms (dictOf (bitsOf ws n)))
+unfolding dictBuild
+built-is ws n rooms e a q = go (dictRefusal ws n rooms) refl q
+  where
+    inside-is : {e d : Entries} → is e ≡ is d → e ≡ d
+    inside-is p = cc
+
+    go : (o : Option Refusal) → dictRefusal ws n rooms ≡ o
+        → _≡_ {A = DictAfter} (record { reply = is e; areas = a }) (elim o [
+          | none ↦ record { reply = is (entriesOf (dictOf (bitsOf ws n))); areas = dictWritten rooms (dictOf (bitsOf ws n)) }
+          | some r ↦ record { reply = refused r; areas = dictZeroed rooms }
+        ])
+        → DictAccepted ws n rooms × (e ≡ entriesOf (dictOf (bitsOf ws n))) × (a ≡ dictWritten rooms (dictOf (bitsOf ws n)))
+    go none f q = (dict-exactly ws n rooms .0 f, inside-is (ap (λ (x : DictAfter). x .reply) q), ap (λ (x : DictAfter). x .areas) q)
+    go (some r) f q = absurd (let p : _≡_ {A = Answer Entries} (is e) (refused r) = ap (λ (x : DictAfter). x .reply) q in let z : _≡_ {A = ℕ} 0 1 = cc in omega arith)

@@ -11,3 +11,5 @@ pub mod Planning
 pub mod Plans
 pub mod Stores
 pub mod Writes
+pub mod Agree
+pub mod Plainly
