@@ -201,11 +201,11 @@ module _ (ws : List ℕ) (n : ℕ) {t : Bool} (e : t ≡ leb n (64 * length ws))
           let r : leb (suc n) (64 * length ws) ≡ false = ap (λ m. leb m (64 * length ws)) (sym (add-one n)) ∙ sym f ∙ not-true u g in
           rw (sym e ∙ not-false t h, r, editIf)
 
-      pub push-held : not u ≡ false → n + 1 < 2 ^ 64 → {vs : List ℕ} → vs ≡ stored ws n b → edited (is (n + 1)) vs ≡ stringPush ws n b
+      pub push-held : not u ≡ false → n < 2 ^ 64 → (n ≡ 2 ^ 64 - 1 → ⊥) → {vs : List ℕ} → vs ≡ stored ws n b → edited (is (n + 1)) vs ≡ stringPush ws n b
       unfolding stringPush editIf held
-      push-held g l {vs} q =
+      push-held g l k {vs} q =
           let r : leb (suc n) (64 * length ws) ≡ true = ap (λ m. leb m (64 * length ws)) (sym (add-one n)) ∙ sym f ∙ not-false u g in
-          let m : ltb (suc n) (2 ^ 64) ≡ true = lt-ltb (suc n) (2 ^ 64) (omega arith) in
+          let m : ltb (suc n) (2 ^ 64) ≡ true = lt-ltb (suc n) (2 ^ 64) (omega (arith, k)) in
           rw (sym e ∙ not-false t h, r, m, editIf) (ap₂ (λ k v. edited (is k) v) (add-one n) q)
 
   pub resize-broken : (m : ℕ) → not t ≡ true → edited (refused broken) ws ≡ stringResize ws n m

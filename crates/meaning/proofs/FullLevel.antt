@@ -139,8 +139,9 @@ from (suc k) v₀ l v b r = go (r .under) refl (from k (suc v₀) (pioneerString
 
 pub full-level : (l : List Bool) (v b : ℕ) → (fullFrom 4 1 l ≡ refuse 5 (v ∷ b ∷ [])) ↔ LowestLevel l v b
 unfolding full NoFull
-full-level l v b =
-    (λ e. let r = to 4 1 l v b e in
-    record { under = r .under; level = omega (arith, r .level); few = r .few; long = r .long; here = r .here; lower = r .lower },
-    λ r. from 4 1 l v b
-    (record { under = r .under; level = omega (arith, r .level); few = r .few; long = r .long; here = r .here; lower = r .lower }))
+full-level l v b = (
+  λ e. let r = to 4 1 l v b e in
+      record { under = r .under; level = omega (arith, r .level); few = r .few; long = r .long; here = r .here; lower = r .lower },
+  λ r. from 4 1 l v b
+      (record { under = r .under; level = omega (arith, r .level); few = r .few; long = r .long; here = r .here; lower = r .lower }),
+)

@@ -112,9 +112,9 @@ unfolding IsSucc plainSucc item
 succ-only l x (is i) s =
     let u : x + (i - x) ≡ i = omega (arith, s .1) in
     sym (
-      first-at (drop x l) x (i - x) (getD-drop x l (i - x) false ∙ ap (λ k. getD l k false) u ∙ s .0)
-          (λ j h. getD-drop x l j false ∙ s .2 (x + j) (omega arith) (omega (arith, s .1)))
-      ∙ ap is u
+    first-at (drop x l) x (i - x) (getD-drop x l (i - x) false ∙ ap (λ k. getD l k false) u ∙ s .0)
+    (λ j h. getD-drop x l j false ∙ s .2 (x + j) (omega arith) (omega (arith, s .1)))
+    ∙ ap is u
     )
 succ-only l x nothing s = sym (ap (item 0) (none-in (drop x l) x (λ j. getD-drop x l j false ∙ s (x + j) (omega arith))))
 succ-only l x (refused e) s = absurd s

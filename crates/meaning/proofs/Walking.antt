@@ -108,12 +108,12 @@ module _ (vs bs : List ℕ) (rooms : Rooms) (a : Accepted vs bs rooms) where
   -- "walking the built tree returns exactly the levels and labels it was built from"
   pub walk-returns : (w : WalkRooms) → 2 * length vs + 2 ≤ w .scratch → length vs ≤ w .levels → length vs ≤ w .labels
       → walking T A w
-          ≡ record {
-            answer = is (length vs);
-            levels = filled (w .levels) vs;
-            labels = filled (w .labels) bs;
-            scratch = replicate (w .scratch) 0;
-          }
+      ≡ record {
+        answer = is (length vs);
+        levels = filled (w .levels) vs;
+        labels = filled (w .labels) bs;
+        scratch = replicate (w .scratch) 0;
+      }
   unfolding walking walkRefusal walkedBy treeOf
   walk-returns w h i j =
       if-none _ _

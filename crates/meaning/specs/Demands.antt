@@ -29,12 +29,12 @@ pub record Answered (vs bs : List ℕ) (o : After) : Type 0 where
   -- "walking the built tree returns exactly the levels and labels it was built from"
   pub walk : (w : WalkRooms) → 2 * length vs + 2 ≤ w .scratch → length vs ≤ w .levels → length vs ≤ w .labels
       → walking tree (o .areas) w
-          ≡ record {
-            answer = is (length vs);
-            levels = filled (w .levels) vs;
-            labels = filled (w .labels) bs;
-            scratch = replicate (w .scratch) 0;
-          }
+      ≡ record {
+        answer = is (length vs);
+        levels = filled (w .levels) vs;
+        labels = filled (w .labels) bs;
+        scratch = replicate (w .scratch) 0;
+      }
   -- "Node id is k + 1": node k has its first child at the next node if that is one level deeper, and its next sibling at the first node
   -- after those below it if that has the same level, each with its own label
   pub child : (k : ℕ) → k < length vs → HasLevel vs (suc k) (suc (getD vs k 0))

@@ -59,8 +59,7 @@ dictPlan ws n =
     (check (leb n (64 * length ws)) 9 (0 ∷ [])
     ∷ check (leb n mostBits) 2 (n ∷ [])
     ∷ fullAt 0 (fullBlock (n / 256 + 1) 0 (bitsOf ws n)) none
-    ∷ []))
-    [
+    ∷ [])) [
       | none ↦ is (entriesOf (dictOf (bitsOf ws n)))
       | some r ↦ refused r
     ]

@@ -230,12 +230,12 @@ module _ {l : List Bool} {o : SparseOneNnd} {B₀ M₀ L₀ B M L : List ℕ} {s
           let u : (b - 1) / 256 ≡ b / 256 = omega arith in
           let q : t ≡ s = e ∙ if-false _ _ (ne-eqb (b % 256) 0 (λ z. omega arith)) in
           rw q (
-            record {
-              at = w .at;
-              rank = w .rank;
-              home = w .home ∙ ap (λ (k : ℕ). bytePos l (256 * k)) u;
-              base = w .base ∙ ap (λ (k : ℕ). onesTo l (256 * k)) u;
-            }
+          record {
+            at = w .at;
+            rank = w .rank;
+            home = w .home ∙ ap (λ (k : ℕ). bytePos l (256 * k)) u;
+            base = w .base ∙ ap (λ (k : ℕ). onesTo l (256 * k)) u;
+          }
           )
 
   large-area : (E : List ℕ) → E ≡ largeArea (o .larges) b s L → E ≡ sets L₀ (2 * o .larges) (pairUp (largePos l) (largeRank l) 0 ((b + 1 + 255) / 256))
@@ -286,19 +286,19 @@ module _ {l : List Bool} {o : SparseOneNnd} {B₀ M₀ L₀ B M L : List ℕ} {s
       let g = large-state t e in
       let v : b / 256 ≡ (b + 1 - 1) / 256 = omega arith in
       rw er (
-        record {
-          at = ap (λ (k : ℕ). k + 1 + opens (take 256 (drop (256 * b) l))) (g .at) ∙ sym (pos-next l b);
-          rank = ap (λ (k : ℕ). k + opens (take 256 (drop (256 * b) l))) (g .rank) ∙ sym (ones-to-next l b);
-          home = g .home ∙ ap (largePos l) v;
-          base = g .base ∙ ap (largeRank l) v;
-          bytes =
-              eb ∙ ap (λ (x : List ℕ). sets x (o .bytes + t .at) (block (take 256 (drop (256 * b) l)))) (w .bytes)
-              ∙ sets-more B₀ (o .bytes) (o .bytes + t .at) (bytesOf b l) (block (take 256 (drop (256 * b) l)))
-              (ap (λ (k : ℕ). o .bytes + k) (g .at))
-              ∙ ap (sets B₀ (o .bytes)) (sym (bytes-next l b));
-          middles = middle-area t M′ g em;
-          larges = large-area L′ el;
-        }
+      record {
+        at = ap (λ (k : ℕ). k + 1 + opens (take 256 (drop (256 * b) l))) (g .at) ∙ sym (pos-next l b);
+        rank = ap (λ (k : ℕ). k + opens (take 256 (drop (256 * b) l))) (g .rank) ∙ sym (ones-to-next l b);
+        home = g .home ∙ ap (largePos l) v;
+        base = g .base ∙ ap (largeRank l) v;
+        bytes =
+            eb ∙ ap (λ (x : List ℕ). sets x (o .bytes + t .at) (block (take 256 (drop (256 * b) l)))) (w .bytes)
+            ∙ sets-more B₀ (o .bytes) (o .bytes + t .at) (bytesOf b l) (block (take 256 (drop (256 * b) l)))
+            (ap (λ (k : ℕ). o .bytes + k) (g .at))
+            ∙ ap (sets B₀ (o .bytes)) (sym (bytes-next l b));
+        middles = middle-area t M′ g em;
+        larges = large-area L′ el;
+      }
       )
 
 -- what the second pass asks of its parts

@@ -17,12 +17,12 @@ use first_pass::Pass;
 use first_pass::counts_of;
 use first_pass::scan;
 use part::fit;
+use part::front8;
 use part::front16;
 use part::front64;
-use part::front8;
+use part::past8;
 use part::past16;
 use part::past64;
-use part::past8;
 use write::write_fits;
 
 // What rank and the byte size answer.
@@ -262,13 +262,6 @@ impl SparseOneNnd {
         words::zero8(bytes);
         words::zero16(middles);
         words::zero64(larges);
-        SparseOneNnd::write(
-            ws,
-            n,
-            SparseOneNnd::empty(),
-            bytes,
-            middles,
-            larges,
-        )
+        SparseOneNnd::write(ws, n, SparseOneNnd::empty(), bytes, middles, larges)
     }
 }

@@ -66,7 +66,14 @@ fn rank_walk(bytes: &[u8], x: usize, k: usize, r: usize, at: usize) -> Count
 }
 
 // Rank from large entry g and middle entry m.
-fn rank_from(bytes: &[u8], middles: &[u16], larges: &[u64], place: usize, g: usize, m: usize) -> Count
+fn rank_from(
+    bytes: &[u8],
+    middles: &[u16],
+    larges: &[u64],
+    place: usize,
+    g: usize,
+    m: usize,
+) -> Count
     requires { ⌜ 8 * m ≤ place / 256 ⌝ }
     ensures { λ r. ⌜ saidCount r ≡ counted (rankFrom (dictAt (now (bytes .entry)) (now (middles .entry)) (now (larges .entry))) place g m) ⌝ }
 {

@@ -1,6 +1,5 @@
 -- `count_ones` meets its contract. The invariant is `Adding`.
 
-
 use borrow.Author.Needs.{needs}
 use Prim.Native.Nat.{_-_}
 use native.Mathlib.Omega.{arith}

@@ -1,6 +1,5 @@
 -- `before16` meets its contract. The invariant is `Seeking`.
 
-
 use Prim.Native.Nat.{_-_, _/_}
 use lib.ListN.{length}
 use Rattle.sparse_one_nnd.proofs.Seeks.{Seeking, seek-start, seek-end, seek-stop, seek-on}

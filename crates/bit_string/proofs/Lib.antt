@@ -1,0 +1,6 @@
+pub mod Part
+pub mod Behind
+pub mod Ahead
+pub mod Clear
+pub mod Cursor
+pub mod Agree
