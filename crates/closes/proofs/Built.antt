@@ -27,9 +27,9 @@ close-lent t a p = refl
 pub get-close-matches : (vs bs : List ℕ) (rooms : Rooms) → Accepted vs bs rooms → (c : Counts) → treeIn c ≡ treeOf vs
     → (p : ℕ) → getD (string vs) p false ≡ true → (r : Closed)
     → said r
-        ≡ closeIn (treeIn c)
-        (lentAt (lentOf vs bs rooms .held .words) (lentOf vs bs rooms .held .bytes) (lentOf vs bs rooms .held .middle) (lentOf vs bs rooms .held .large) (lentOf vs bs rooms .labels))
-        p
+    ≡ closeIn (treeIn c)
+    (lentAt (lentOf vs bs rooms .held .words) (lentOf vs bs rooms .held .bytes) (lentOf vs bs rooms .held .middle) (lentOf vs bs rooms .held .large) (lentOf vs bs rooms .labels))
+    p
     → (d : ℕ) × (r ≡ closed.At d) × IsClose (string vs) p d
 get-close-matches vs bs rooms a c e p o r f =
     let m = close-in-matches vs bs rooms a p o in

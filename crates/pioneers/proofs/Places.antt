@@ -22,12 +22,12 @@ use Rattle.pioneers.specs.declared.string.Rule.the-variants as rule
 use Rattle.pioneers.proofs.Parts.{part-is, part-new}
 use Rattle.pioneers.proofs.Ruled.{rule-of}
 
-take-zeros : (t k : ℕ) → t ≤ k → take t (replicate {A = ℕ} k 0) ≡ replicate t 0
+pub take-zeros : (t k : ℕ) → t ≤ k → take t (replicate {A = ℕ} k 0) ≡ replicate t 0
 take-zeros zero k h = refl
 take-zeros (suc t) zero h = absurd (not-suc-le-zero h)
 take-zeros (suc t) (suc k) h = ap (λ (l : List ℕ). 0 ∷ l) (take-zeros t k (le-of-suc-le-suc h))
 
-drop-zeros : (t k : ℕ) → drop t (replicate {A = ℕ} k 0) ≡ replicate (k - t) 0
+pub drop-zeros : (t k : ℕ) → drop t (replicate {A = ℕ} k 0) ≡ replicate (k - t) 0
 drop-zeros zero k = let e : k ≡ k - 0 = omega arith in ap (λ (n : ℕ). replicate n 0) e
 drop-zeros (suc t) zero = let e : 0 ≡ 0 - suc t = omega arith in ap (λ (n : ℕ). replicate {A = ℕ} n 0) e
 drop-zeros (suc t) (suc k) = let e : k - t ≡ suc k - suc t = omega arith in drop-zeros t k ∙ ap (λ (n : ℕ). replicate n 0) e

@@ -7,7 +7,6 @@ use closes::fit;
 use closes::level;
 use closes::level::Step;
 use record::Counts;
-
 ghost use mathlib.Core.Path.{_≡_};
 ghost use Rattle.meaning.specs.Bits.{opens, asBit, bitsOf};
 ghost use Rattle.meaning.specs.Close.{found};

@@ -4,7 +4,6 @@ use crate::Node;
 use crate::Refusal;
 use closes::level;
 use closes::level::Step;
-
 ghost use mathlib.Core.Path.{_≡_};
 ghost use mathlib.Core.Bool.{true, false};
 ghost use mathlib.Core.Option.{none, some};

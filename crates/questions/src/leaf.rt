@@ -1,6 +1,5 @@
 // The leaves between two places.
 use closes::level;
-
 ghost use mathlib.Core.Path.{_≡_};
 ghost use Rattle.meaning.specs.Bits.{bitsOf};
 ghost use Prim.Native.Nat.{_≤_};

@@ -2,7 +2,6 @@
 use closes::fit;
 use closes::level::Step;
 use record::Counts;
-
 ghost use mathlib.Core.Path.{_≡_};
 ghost use Rattle.meaning.specs.Child as child;
 ghost use Rattle.meaning.specs.Questions.{lentAt, firstChild, nextSibling, leavesBelow, labelIn, nodesIn, isEmptyIn, bytesHeld};

@@ -2,7 +2,6 @@
 use crate::Number;
 use crate::Refusal;
 use record::Counts;
-
 ghost use mathlib.Core.Path.{_≡_};
 ghost use Prim.Native.Nat.{_+_, _*_, _<_};
 ghost use Rattle.meaning.specs.Questions.{countSize, sized, sizeIn};

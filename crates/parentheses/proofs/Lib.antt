@@ -1,0 +1,10 @@
+pub mod Parts
+pub mod Holds
+pub mod Families
+pub mod Counting
+pub mod Planning
+pub mod Copied
+pub mod Putting
+pub mod Written
+pub mod Standing
+pub mod Outcomes

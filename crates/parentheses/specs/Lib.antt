@@ -1,0 +1,4 @@
+pub mod Plans
+pub mod Copies
+pub mod Writes
+pub mod Raises
