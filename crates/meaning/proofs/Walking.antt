@@ -3,11 +3,11 @@ use mathlib.Core.Path.{_≡_, refl, sym, ap, _∙_, subst}
 use mathlib.Core.Bool.{Bool}
 use mathlib.Core.Option.{Option, none, some}
 use mathlib.Core.List.{List, [], _∷_, map, append-nil}
-use Prim.Native.Nat.{ℕ, zero, suc, pred, _+_, _*_, _≤_}
+use Prim.Native.Nat.{ℕ, zero, suc, pred, _+_, _*_, _^_, _≤_}
 use native.Mathlib.Omega.{arith}
 use lib.ListN.{length, getD, replicate, length-map}
 use borrow.Author.Tests.{le-leb}
-use Rattle.meaning.specs.Answers.{Answer, is, nothing, refused, broken}
+use Rattle.meaning.specs.Answers.{Answer, is, nothing, refused}
 use Rattle.meaning.specs.String.{string}
 use Rattle.meaning.specs.Child.{Node, IsNode, root, child}
 use Rattle.meaning.specs.Sibling.{next}
@@ -16,7 +16,7 @@ use Rattle.meaning.specs.Areas.{Rooms, filled}
 use Rattle.meaning.specs.Refusals.{Accepted}
 use Rattle.meaning.specs.Build.{Tree, Lent, treeOf, lentOf}
 use Rattle.meaning.specs.Questions.{firstChild, nextSibling, edgeOf}
-use Rattle.meaning.specs.Walking.{Step, stepTo, orElse, backBy, onwardBy, toldFirst, telling, walkBy, WalkRooms, Walked, walkRefusal, walkedBy, walking}
+use Rattle.meaning.specs.Walking.{Step, stepTo, orElse, backBy, onwardBy, toldFirst, walkBy, WalkRooms, Walked, walkRefusal, walkedBy, walking}
 use Rattle.meaning.proofs.If.{if-none}
 use Rattle.meaning.proofs.Accepted.{check-true, done, and, all-none}
 use Rattle.meaning.proofs.String.{string-walk}
@@ -26,6 +26,7 @@ use Rattle.meaning.proofs.WalkBy.{AllNodes, onward-nodes}
 use Rattle.meaning.proofs.Kin.{root-kin}
 use Rattle.meaning.proofs.Questions.{first-child, next-sibling}
 use Rattle.meaning.proofs.Lent.{counts-fit}
+use Rattle.meaning.proofs.Onward.{onward-length, walk-end, walk-on}
 
 length-visited : (i : ℕ) (vs : List ℕ) → length (visited i vs) ≡ length vs
 unfolding visited
@@ -73,25 +74,28 @@ module _ (vs bs : List ℕ) (rooms : Rooms) (a : Accepted vs bs rooms) where
           ∙ back-by (n ∷ ns) o ∙ ap stepOf (sym (onward-back (plain S) n ns e))
 
   -- a walk that k nodes end
-  walk-by-steps : (k : ℕ) (p : List Node) → AllNodes S p → length (visits (plain S) (suc k) p) ≤ k → walkBy T A k p ≡ is (tell bs (visits (plain S) k p))
-  unfolding walkBy telling stepOf visits tell toldFirst
-  walk-by-steps zero p o h = go (onward (plain S) p) refl
+  walk-by-steps : (k : ℕ) (p : List Node) → AllNodes S p → length (visits (plain S) (suc k) p) ≤ k → k + length p ≤ 2 ^ 32
+      → walkBy T A k p ≡ is (tell bs (visits (plain S) k p))
+  unfolding stepOf visits tell toldFirst
+  walk-by-steps zero p o h d = go (onward (plain S) p) refl
     where
       go : (q : List Node) → onward (plain S) p ≡ q → walkBy T A zero p ≡ is (tell bs (visits (plain S) zero p))
-      go [] e = ap (λ x. telling x (λ q. refused broken)) (onward-by p o ∙ ap stepOf e)
+      go [] e = walk-end T A zero p (onward-by p o ∙ ap stepOf e)
       go (m ∷ ms) e = absurd (omega (arith, ap length (visits-more (plain S) zero p m ms e)))
-  walk-by-steps (suc k) p o h = go (onward (plain S) p) refl (walk-by-steps k)
+  walk-by-steps (suc k) p o h d = go (onward (plain S) p) refl (walk-by-steps k)
     where
       go : (q : List Node) → onward (plain S) p ≡ q
-          → ((r : List Node) → AllNodes S r → length (visits (plain S) (suc k) r) ≤ k → walkBy T A k r ≡ is (tell bs (visits (plain S) k r)))
+          → ((r : List Node) → AllNodes S r → length (visits (plain S) (suc k) r) ≤ k → k + length r ≤ 2 ^ 32 → walkBy T A k r ≡ is (tell bs (visits (plain S) k r)))
           → walkBy T A (suc k) p ≡ is (tell bs (visits (plain S) (suc k) p))
-      go [] e ih =
-          ap (λ x. telling x (λ q. walkBy T A k q)) (onward-by p o ∙ ap stepOf e) ∙ ap (λ v. is (tell bs v)) (sym (visits-end (plain S) (suc k) p e))
+      go [] e ih = walk-end T A (suc k) p (onward-by p o ∙ ap stepOf e) ∙ ap (λ v. is (tell bs v)) (sym (visits-end (plain S) (suc k) p e))
       go (m ∷ ms) e ih =
-          ap (λ x. telling x (λ q. walkBy T A k q)) (onward-by p o ∙ ap stepOf e)
-          ∙ ap (toldFirst m ms (getD bs (pred (m .id)) 0))
+          let b = getD bs (pred (m .id)) 0 in
+          let f : onwardBy T A p ≡ is (record { path = m ∷ ms; label = b }) = onward-by p o ∙ ap stepOf e in
+          let l : suc (length ms) ≤ suc (length p) = onward-length T A p (record { path = m ∷ ms; label = b }) f in
+          walk-on T A m ms b k p f (omega arith)
+          ∙ ap (toldFirst m ms b)
           (ih (m ∷ ms) (subst (AllNodes S) e (onward-nodes vs (a .rule) (plain S) (record { kid = λ n i. refl; sib = λ n i. refl }) p o))
-          (omega (arith, ap length (visits-more (plain S) (suc k) p m ms e))))
+          (omega (arith, ap length (visits-more (plain S) (suc k) p m ms e))) (omega arith))
           ∙ ap (λ v. is (tell bs v)) (sym (visits-more (plain S) k p m ms e))
 
   -- what is told is the list
@@ -99,7 +103,7 @@ module _ (vs bs : List ℕ) (rooms : Rooms) (a : Accepted vs bs rooms) where
   unfolding AllNodes
   walk-told =
       walk-by-steps (length vs) (root ∷ []) (root-kin vs (a .rule) .is, tt)
-      (omega (arith, ap length (walk-from vs (a .rule) (suc (length vs)) (omega arith)), length-visited 1 vs))
+      (omega (arith, ap length (walk-from vs (a .rule) (suc (length vs)) (omega arith)), length-visited 1 vs)) (omega (arith, a .few))
       ∙ ap (λ v. is (tell bs v)) (walk-from vs (a .rule) (length vs) (omega arith))
 
   pub told-tells : Tells vs bs (tell bs (visited 1 vs))

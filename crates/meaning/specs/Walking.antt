@@ -2,10 +2,10 @@
 use mathlib.Core.Bool.{Bool}
 use mathlib.Core.Option.{Option, none, some}
 use mathlib.Core.List.{List, [], _∷_, map}
-use Prim.Native.Nat.{ℕ, zero, suc, pred, _+_, _*_}
-use lib.Dec.{leb}
+use Prim.Native.Nat.{ℕ, zero, suc, pred, _+_, _*_, _^_}
+use lib.Dec.{ltb, leb}
 use lib.ListN.{length, replicate}
-use Rattle.meaning.specs.Answers.{Refusal, Answer, is, nothing, refused, broken}
+use Rattle.meaning.specs.Answers.{Refusal, Answer, is, nothing, refused, broken, provided}
 use Rattle.meaning.specs.Child.{Node, root}
 use Rattle.meaning.specs.Walk.{Told}
 use Rattle.meaning.specs.Areas.{filled}
@@ -44,13 +44,17 @@ toldFirst n ns b (is ts) = is (record { id = n .id; level = pred (length ns); la
 toldFirst n ns b nothing = nothing
 toldFirst n ns b (refused r) = refused r
 
--- what a step tells, and then the rest; the record has no node more than it counts
+-- what a step tells, and then the rest; a level past 2^32 - 1 overflows
 unfoldable pub telling : Answer Step → (List Node → Answer (List Told)) → Answer (List Told)
 telling nothing go = is []
 telling (refused r) go = refused r
-telling (is s) go = elim (s .path) [ [] ↦ is [] | n ∷ ns ↦ toldFirst n ns (s .label) (go (n ∷ ns)) ]
+telling (is s) go =
+    elim (s .path) [
+      | [] ↦ is []
+      | n ∷ ns ↦ provided (ltb (pred (length ns)) (2 ^ 32)) broken (toldFirst n ns (s .label) (go (n ∷ ns)))
+    ]
 
--- the walk from a path on, k nodes at most
+-- the walk from a path on, k nodes at most: the record has no node more than it counts
 unfoldable pub walkBy : Tree → Lent → ℕ → List Node → Answer (List Told)
 walkBy t a zero p = telling (onwardBy t a p) (λ q. refused broken)
 walkBy t a (suc k) p = telling (onwardBy t a p) (λ q. walkBy t a k q)
