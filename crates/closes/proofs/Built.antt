@@ -4,7 +4,6 @@ use mathlib.Core.Bool.{true, false}
 use mathlib.Core.List.{List}
 use Prim.Native.Nat.{ℕ}
 use lib.ListN.{getD}
-use Rattle.meaning.specs.Answers.{is}
 use Rattle.meaning.specs.String.{string}
 use Rattle.meaning.specs.Match.{IsClose}
 use Rattle.meaning.specs.Areas.{Rooms}

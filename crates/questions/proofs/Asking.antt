@@ -2,31 +2,39 @@
 use mathlib.Core.Path.{_≡_, refl, sym, ap, _∙_}
 use mathlib.Core.Bool.{Bool, true, false, not}
 use mathlib.Core.Option.{Option, none, some}
-use mathlib.Core.List.{List, [], _∷_}
-use Prim.Native.Nat.{ℕ, zero, suc, pred, _+_, _-_, _/_, _^_, _<_, _≤_}
+use mathlib.Core.List.{List, [], map}
+use Prim.Native.Nat.{ℕ, suc, _+_, _*_, _-_, _/_, _^_, _<_, _≤_}
 use native.Mathlib.Numerals.{add-one}
 use native.Mathlib.Omega.{arith}
 use lib.Dec.{ltb, eqb}
 use lib.ListN.{length, getD, take, length-take}
-use borrow.Author.Tests.{le-ltb, lt-ltb, ltb-true, eq-eqb, ne-eqb, eqb-true, not-true, not-false}
+use lib.Seq.{take-all}
+use borrow.Author.Tests.{le-leb, leb-true, le-ltb, lt-ltb, eq-eqb, ne-eqb, eqb-true, not-true, not-false}
 use Rattle.meaning.specs.Answers as answers
-use Rattle.meaning.specs.Answers.{Answer, is, nothing, refused, place, close, broken, provided, orBroken}
-use Rattle.meaning.specs.Bits.{opens, bitsOf}
+use Rattle.meaning.specs.Answers.{is, nothing, refused, place, close, broken, provided}
+use Rattle.meaning.specs.Bits.{opens, bitsOf, wordCount}
+use Rattle.meaning.specs.Plain.{side, plainRank}
+use Rattle.meaning.specs.BitString.{held, ifHeld, beforeEnd, stringRank}
 use Rattle.meaning.specs.Close.{test, found, closeAt}
 use Rattle.meaning.specs.Child as child
 use Rattle.meaning.specs.Child.{child}
 use Rattle.meaning.specs.Sibling.{sibling}
 use Rattle.meaning.specs.Walk.{lowest}
+use Rattle.meaning.specs.Size.{sum}
 use Rattle.meaning.specs.Leaves.{leafCount}
 use Rattle.meaning.specs.Refusals.{check, firstOf}
 use Rattle.meaning.specs.Build.{Lent, Tree, levelsIn}
 use Rattle.meaning.specs.Growth.{firstBits, bitsIn}
-use Rattle.meaning.specs.Questions.{Edge, countsFit, lentAt, atBit, closeIn, nodeRefusal, labelled, firstChild, siblingBy, nextSibling, leavesBy, leavesBelow, nodesIn, isEmptyIn, labelOf, labelIn}
-use Rattle.meaning.proofs.If.{if-true, if-false, if-none, if-some}
+use Rattle.meaning.specs.Questions.{countsFit, lentAt, atBit, closeIn, nodeRefusal, labelled, firstChild, siblingBy, nextSibling, leavesBy, leavesBelow, nodesIn, isEmptyIn, labelOf, labelIn}
+use Rattle.meaning.proofs.If.{both, if-true, if-false, if-none, if-some}
 use Rattle.meaning.proofs.Tab.{opens-closes}
 use Rattle.meaning.proofs.Stored.{length-bits, bits-take}
 use Rattle.meaning.proofs.Inside.{test-some, test-none, close-inside, found-or}
 use Rattle.meaning.proofs.Accepted.{check-none, first-none}
+use Rattle.ops.specs.declared.Refusal as ops
+use Rattle.ops.specs.declared.Count.{Count}
+use Rattle.ops.specs.declared.Count.the-variants as count
+use Rattle.ops.specs.Said.{saidCount}
 use Rattle.record.specs.declared.Counts.{Counts}
 use Rattle.record.specs.Record.{treeIn}
 use Rattle.closes.specs.Steps.{stepOf}
@@ -48,6 +56,21 @@ labelled-same : (t : Tree) (a : Lent) (o : Option child.Node) → labelled t a o
 unfolding labelled
 labelled-same t a none = refl
 labelled-same t a (some m) = refl
+
+-- the opens before a place, as the rank past the end
+module _ (ws : List ℕ) (n : ℕ) (r : Count) (h : n ≤ 64 * length ws) (e : saidCount r ≡ stringRank true ws n n) where
+  total : saidCount r ≡ is (opens (bitsOf ws n))
+  unfolding stringRank ifHeld provided held beforeEnd side plainRank
+  total =
+      e
+      ∙ ap (λ b. provided b broken (is (opens (take (suc n) (bitsOf ws n))))) (le-leb n (64 * length ws) h)
+      ∙ ap (λ l. is (opens l)) (take-all (suc n) (bitsOf ws n) (omega (arith, length-bits ws n)))
+
+  pub total-is : (k : ℕ) → r ≡ count.Is k → k ≡ opens (bitsOf ws n)
+  total-is k f = cc (total, ap saidCount f)
+
+  pub total-refused : (q : ops.Refusal) → r ≡ count.Refused q → 0 ≡ opens (bitsOf ws n)
+  total-refused q f = let z : _≡_ {A = ℕ} 0 1 = cc (total, ap saidCount f) in absurd (omega arith)
 
 -- the close that the question of a close finds
 module _ (t : Tree) (a : Lent) (p : ℕ) (r : Closed) (e : said r ≡ closeIn t a p) where
@@ -112,6 +135,16 @@ module _ (c : Counts) (ws bs ms ls us : List ℕ) where
       check-unfit h = rw (sym e ∙ not-true b h)
 
       module _ (h : not b ≡ false) where
+        pub place-held : n .place < getD (c .bits) 0 0 → n .place ≤ 64 * length ws
+        unfolding countsFit treeIn sum
+        place-held i =
+            let a1 = both _ _ (sym e ∙ not-false b h) in
+            let a2 = both _ _ (a1 .0) in
+            let a3 = both _ _ (a2 .0) in
+            let a4 = both _ _ (a3 .0) in
+            let w : sum (map (λ n. wordCount (n .bits)) (treeIn c .counts)) ≤ length ws = leb-true _ _ (a4 .0) in
+            omega arith
+
         pub check-out : getD (c .bits) 0 0 ≤ n .place → some (place (n .place)) ≡ nodeRefusal (treeIn c) (lentAt ws bs ms ls us) (nodeOf n)
         unfolding nodeRefusal firstOf check
         check-out i = rw (sym e ∙ not-false b h, outside-is i)

@@ -1,7 +1,7 @@
 -- An edge: the open right after a place, and the label of the node there.
-use mathlib.Core.Path.{_≡_, refl, sym, ap, _∙_}
+use mathlib.Core.Path.{_≡_, sym, ap, _∙_}
 use mathlib.Core.Bool.{Bool, true, false}
-use mathlib.Core.Option.{Option, none, some}
+use mathlib.Core.Option.{none, some}
 use mathlib.Core.List.{List, []}
 use Prim.Native.Nat.{ℕ, suc, _+_, _<_, _≤_}
 use native.Mathlib.Numerals.{add-one}
@@ -11,7 +11,6 @@ use borrow.Author.Tests.{le-ltb, lt-ltb}
 use Rattle.meaning.specs.Answers.{refused, broken}
 use Rattle.meaning.specs.Bits.{bitsOf}
 use Rattle.meaning.specs.Close.{test}
-use Rattle.meaning.specs.Child as child
 use Rattle.meaning.specs.Questions.{edge, lentAt, labelled}
 use Rattle.meaning.proofs.If.{if-true, if-false}
 use Rattle.meaning.proofs.Stored.{length-bits}

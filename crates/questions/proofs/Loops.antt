@@ -1,46 +1,16 @@
--- The two loops: the opens before a place, and the leaves between two places.
+-- The loop over the leaves between two places.
 use mathlib.Core.Path.{_≡_, refl, sym, ap, ap₂, _∙_}
 use mathlib.Core.Bool.{Bool, true, false}
-use mathlib.Core.List.{List, [], _∷_, _++_}
-use Prim.Native.Nat.{ℕ, zero, suc, _+_, _-_, _^_, _<_, _≤_}
+use mathlib.Core.List.{List, [], _∷_}
+use Prim.Native.Nat.{ℕ, suc, _+_, _-_, _^_, _<_, _≤_}
 use native.Mathlib.Numerals.{add-one}
 use native.Mathlib.Omega.{arith}
 use lib.ListN.{length, getD}
 use lib.Seq.{slice, slice-cons, length-slice}
-use Rattle.meaning.specs.Bits.{opens, asBit, tab, bitAt, bitsOf}
+use Rattle.meaning.specs.Bits.{bitsOf}
 use Rattle.meaning.specs.Leaves.{leaves, leafCount}
-use Rattle.meaning.proofs.Bit.{as-lt}
-use Rattle.meaning.proofs.Tab.{opens-append}
-use Rattle.meaning.proofs.Stored.{length-bits, bits-snoc}
+use Rattle.meaning.proofs.Stored.{length-bits}
 use Rattle.questions.specs.Leaf.{leafAt}
-
-pub record Tally (ws : List ℕ) (i t : ℕ) : Type 0 where
-  pub is : t ≡ opens (bitsOf ws i)
-  pub low : t ≤ i
-
-pub tally-start : (ws : List ℕ) → Tally ws 0 0
-unfolding bitsOf tab opens
-tally-start ws = record { is = refl; low = omega arith }
-
-as-open : (b : Bool) → opens (b ∷ []) ≡ asBit b
-unfolding opens
-as-open true = refl
-as-open false = refl
-
-pub tally-on : (ws : List ℕ) (i t r : ℕ) (b : Bool) → Tally ws i t → b ≡ bitAt ws i → r ≡ asBit b → Tally ws (i + 1) (t + r)
-tally-on ws i t r b s e f =
-    let v : opens (bitsOf ws (i + 1)) ≡ opens (bitsOf ws i) + r =
-    ap (λ j. opens (bitsOf ws j)) (add-one i)
-    ∙ ap opens (bits-snoc ws i)
-    ∙ opens-append (bitsOf ws i) (bitAt ws i ∷ [])
-    ∙ ap (λ z. opens (bitsOf ws i) + z) (as-open (bitAt ws i) ∙ ap asBit (sym e) ∙ sym f) in
-    record { is = omega (arith, s .is, v); low = omega (arith, s .low, as-lt b) }
-
-pub tally-fits : (ws : List ℕ) (i t r n : ℕ) (b : Bool) → Tally ws i t → i < n → n < 2 ^ 64 → r ≡ asBit b → t + r < 2 ^ 64
-tally-fits ws i t r n b s h k f = omega (arith, s .low, as-lt b)
-
-pub tally-done : (ws : List ℕ) (i t n : ℕ) → Tally ws i t → i ≤ n → n ≤ i → t ≡ opens (bitsOf ws n)
-tally-done ws i t n s h k = let e : i ≡ n = omega arith in s .is ∙ ap (λ j. opens (bitsOf ws j)) e
 
 -- two bits at the front: the first is a leaf's open if a close follows
 leaf-front : (x y : Bool) (l : List Bool) → leaves (x ∷ y ∷ l) ≡ leafAt x y + leaves (y ∷ l)

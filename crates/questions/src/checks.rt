@@ -6,33 +6,28 @@ use closes::Closed;
 use closes::fit;
 use closes::level;
 use closes::level::Step;
+use ops::Count;
 use record::Counts;
 ghost use mathlib.Core.Path.{_≡_};
-ghost use Rattle.meaning.specs.Bits.{opens, asBit, bitsOf};
+ghost use Prim.Native.Nat.{_*_, _≤_};
+ghost use lib.ListN.{length};
+ghost use Rattle.meaning.specs.Bits.{opens, bitsOf};
 ghost use Rattle.meaning.specs.Close.{found};
 ghost use Rattle.meaning.specs.Questions.{lentAt, closeIn, nodeRefusal};
 ghost use Rattle.record.specs.Record.{treeIn};
 ghost use Rattle.closes.specs.Steps.{stepOf};
 ghost use Rattle.questions.specs.Said.{nodeOf, checkOf};
 
-// "Open is 1, close is 0".
-fn one(b: bool) -> usize
-    ensures { λ r. ⌜ r ≡ asBit b ⌝ }
-{
-    if b { 1 } else { 0 }
-}
-
-// How many opens there are among the first n bits.
+// How many opens there are among the first n bits: "rank_one past the end is the total".
 fn opens_before(words: &[u64], n: usize) -> usize
+    requires { ⌜ n ≤ 64 * length (now words) ⌝ }
     ensures { λ r. ⌜ r ≡ opens (bitsOf (now (words .entry)) n) ⌝ }
 {
-    let mut total: usize = 0;
-    let mut i = 0;
-    while i < n {
-        total += one(words::bit_at(words, i));
-        i += 1;
+    let total = bit_string::rank_one(words, n, n);
+    match total {
+        Count::Is(k) => k,
+        Count::Refused(_) => 0,
     }
-    total
 }
 
 // "no such bit, or a node whose id is not the number of opens before its place" is PLACE, "the place holds a close" is CLOSE.

@@ -3,10 +3,6 @@ use Rattle.questions.proofs.Summing.{size-unfit, size-held}
 use borrow.Author.Needs.{needs}
 use Rattle.questions.proofs.byte_size.Statement.{statement}
 use Rattle.questions.proofs.byte_size.Tie as tie
-use Rattle.questions.proofs.byte_size.Reads as reads
-use Rattle.questions.proofs.byte_size.Lts as lts
-use Rattle.closes.proofs.fit.counts_fit.Reads as counts-fit-reads
-use Rattle.questions.proofs.size.size_of.Reads as size-of-reads
 
 counts-fit-requires : tie.Need-counts-fit-requires
 counts-fit-requires c κs = search needs

@@ -3,11 +3,6 @@ use Rattle.questions.proofs.Asking.{child-refused, child-none, child-fo
 use borrow.Author.Needs.{needs}
 use Rattle.questions.proofs.first_child.Statement.{statement}
 use Rattle.questions.proofs.first_child.Tie as tie
-use Rattle.questions.proofs.first_child.Reads as reads
-use Rattle.questions.proofs.first_child.Lts as lts
-use Rattle.questions.proofs.checks.check.Reads as check-reads
-use Rattle.questions.proofs.edge.edge_to.Reads as edge-to-reads
-use Rattle.questions.proofs.edge.open_after.Reads as open-after-reads
 
 check-requires : tie.Need-check-requires
 check-requires c κs = search needs

@@ -3,9 +3,6 @@ use Rattle.questions.proofs.Asking.{empty-unfit, empty-is}
 use borrow.Author.Needs.{needs}
 use Rattle.questions.proofs.is_empty.Statement.{statement}
 use Rattle.questions.proofs.is_empty.Tie as tie
-use Rattle.questions.proofs.is_empty.Reads as reads
-use Rattle.questions.proofs.is_empty.Lts as lts
-use Rattle.closes.proofs.fit.counts_fit.Reads as counts-fit-reads
 
 counts-fit-requires : tie.Need-counts-fit-requires
 counts-fit-requires c κs = search needs

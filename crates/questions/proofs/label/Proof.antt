@@ -3,10 +3,6 @@ use Rattle.questions.proofs.Asking.{label-refused, label-none, label-br
 use borrow.Author.Needs.{needs}
 use Rattle.questions.proofs.label.Statement.{statement}
 use Rattle.questions.proofs.label.Tie as tie
-use Rattle.questions.proofs.label.Reads as reads
-use Rattle.questions.proofs.label.Lts as lts
-use Rattle.questions.proofs.checks.check.Reads as check-reads
-use Rattle.questions.proofs.edge.label_at.Reads as label-at-reads
 
 check-requires : tie.Need-check-requires
 check-requires c κs = search needs

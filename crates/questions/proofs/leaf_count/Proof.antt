@@ -3,11 +3,6 @@ use Rattle.questions.proofs.Asking.{leaves-refused, leaves-broken, leav
 use borrow.Author.Needs.{needs}
 use Rattle.questions.proofs.leaf_count.Statement.{statement}
 use Rattle.questions.proofs.leaf_count.Tie as tie
-use Rattle.questions.proofs.leaf_count.Reads as reads
-use Rattle.questions.proofs.leaf_count.Lts as lts
-use Rattle.questions.proofs.checks.check.Reads as check-reads
-use Rattle.questions.proofs.checks.close_of.Reads as close-of-reads
-use Rattle.questions.proofs.leaf.leaves_between.Reads as leaves-between-reads
 
 check-requires : tie.Need-check-requires
 check-requires c κs = search needs

@@ -3,12 +3,6 @@ use Rattle.questions.proofs.Asking.{sibling-refused, sibling-broken, si
 use borrow.Author.Needs.{needs}
 use Rattle.questions.proofs.next_sibling.Statement.{statement}
 use Rattle.questions.proofs.next_sibling.Tie as tie
-use Rattle.questions.proofs.next_sibling.Reads as reads
-use Rattle.questions.proofs.next_sibling.Lts as lts
-use Rattle.questions.proofs.checks.check.Reads as check-reads
-use Rattle.questions.proofs.checks.close_of.Reads as close-of-reads
-use Rattle.questions.proofs.edge.edge_to.Reads as edge-to-reads
-use Rattle.questions.proofs.edge.open_after.Reads as open-after-reads
 
 check-requires : tie.Need-check-requires
 check-requires c κs = search needs

@@ -3,9 +3,6 @@ use Rattle.questions.proofs.Asking.{nodes-unfit, nodes-are}
 use borrow.Author.Needs.{needs}
 use Rattle.questions.proofs.nodes.Statement.{statement}
 use Rattle.questions.proofs.nodes.Tie as tie
-use Rattle.questions.proofs.nodes.Reads as reads
-use Rattle.questions.proofs.nodes.Lts as lts
-use Rattle.closes.proofs.fit.counts_fit.Reads as counts-fit-reads
 
 counts-fit-requires : tie.Need-counts-fit-requires
 counts-fit-requires c κs = search needs

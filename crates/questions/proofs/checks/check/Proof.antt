@@ -1,13 +1,8 @@
 -- `check` meets its contract. Assumes nothing.
-use Rattle.questions.proofs.Asking.{check-unfit, check-out, check-id, check-shut, check-passed}
+use Rattle.questions.proofs.Asking.{place-held, check-unfit, check-out, check-id, check-shut, check-passed}
 use borrow.Author.Needs.{needs}
 use Rattle.questions.proofs.checks.check.Statement.{statement}
 use Rattle.questions.proofs.checks.check.Tie as tie
-use Rattle.questions.proofs.checks.check.Reads as reads
-use Rattle.questions.proofs.checks.check.Lts as lts
-use Rattle.closes.proofs.fit.counts_fit.Reads as counts-fit-reads
-use Rattle.closes.proofs.level.open_at.Reads as open-at-reads
-use Rattle.questions.proofs.checks.opens_before.Reads as opens-before-reads
 
 counts-fit-requires : tie.Need-counts-fit-requires
 counts-fit-requires c κs = search needs
@@ -22,7 +17,7 @@ returns-2 : tie.Need-returns-2
 returns-2 c = search (check-out, needs)
 
 opens-before-requires : tie.Need-opens-before-requires
-opens-before-requires c κs = search needs
+opens-before-requires c κs = search (place-held, needs)
 
 returns-3 : tie.Need-returns-3
 returns-3 c = search (check-id, needs)

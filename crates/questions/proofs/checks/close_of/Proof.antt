@@ -3,9 +3,6 @@ use Rattle.questions.proofs.Asking.{close-at, close-place, close-close,
 use borrow.Author.Needs.{needs}
 use Rattle.questions.proofs.checks.close_of.Statement.{statement}
 use Rattle.questions.proofs.checks.close_of.Tie as tie
-use Rattle.questions.proofs.checks.close_of.Reads as reads
-use Rattle.questions.proofs.checks.close_of.Lts as lts
-use Rattle.closes.proofs.get_close.Reads as get-close-reads
 
 get-close-requires : tie.Need-get-close-requires
 get-close-requires c κs = search needs

@@ -1,55 +1,24 @@
 -- `opens_before` meets its contract. Assumes nothing.
-use Prim.Native.Nat.{_-_, _≤_}
-use Rattle.questions.proofs.Loops.{Tally, tally-start, tally-on, tally-fits, tally-done}
+use Rattle.questions.proofs.Asking.{total-is, total-refused}
 use borrow.Author.Needs.{needs}
 use Rattle.questions.proofs.checks.opens_before.Statement.{statement}
 use Rattle.questions.proofs.checks.opens_before.Tie as tie
-use Rattle.questions.proofs.checks.opens_before.Reads as reads
-use Rattle.questions.proofs.checks.opens_before.Lts as lts
-use Rattle.questions.proofs.checks.one.Reads as one-reads
-use Rattle.words.proofs.bit_at.Reads as bit-at-reads
 
-abbrev Inv-loop : tie.InvT-loop
-Inv-loop words n total₀ i₀ total i = (i ≤ n) × Tally words i total
+rank-one-requires : tie.Need-rank-one-requires
+rank-one-requires c κs = search needs
 
-abbrev μ-loop : tie.MeasureT-loop
-μ-loop words n total₀ i₀ total i = n - i
+enum-known-total : tie.Need-enum-known-total
+enum-known-total c = search needs
 
-loop-holds : tie.Need-loop-holds Inv-loop μ-loop
-loop-holds c = (search needs, tally-start _)
+enum-told : tie.Need-enum-told
+enum-told c = search needs
 
-bit-at-requires : tie.Need-bit-at-requires Inv-loop μ-loop
-bit-at-requires c κs = search needs
+returns : tie.Need-returns
+returns c = search (total-is, needs)
 
-one-requires : tie.Need-one-requires Inv-loop μ-loop
-one-requires c κs = search needs
-
-add-total : tie.Need-add-total Inv-loop μ-loop
-add-total c = record { fits = search (tally-fits, needs) }
-
-add-i : tie.Need-add-i Inv-loop μ-loop
-add-i c = search needs
-
-loop-less : tie.Need-loop-less Inv-loop μ-loop
-loop-less c = search needs
-
-loop-again : tie.Need-loop-again Inv-loop μ-loop
-loop-again c = (search needs, search (tally-on, needs))
-
-returns : tie.Need-returns Inv-loop μ-loop
-returns c = search (tally-done, needs)
+returns-2 : tie.Need-returns-2
+returns-2 c = search (total-refused, needs)
 
 pub opens-before-spec : {M : Type 1} → statement M
 opens-before-spec =
-    tie.close
-    (tie.spec
-    Inv-loop
-    μ-loop
-    loop-holds
-    bit-at-requires
-    one-requires
-    add-total
-    add-i
-    loop-less
-    loop-again
-    returns)
+    tie.close (tie.spec rank-one-requires enum-known-total enum-told returns returns-2)

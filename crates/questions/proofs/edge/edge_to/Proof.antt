@@ -3,9 +3,6 @@ use Rattle.questions.proofs.Links.{edge-broken, edge-is}
 use borrow.Author.Needs.{needs}
 use Rattle.questions.proofs.edge.edge_to.Statement.{statement}
 use Rattle.questions.proofs.edge.edge_to.Tie as tie
-use Rattle.questions.proofs.edge.edge_to.Reads as reads
-use Rattle.questions.proofs.edge.edge_to.Lts as lts
-use Rattle.questions.proofs.edge.label_at.Reads as label-at-reads
 
 returns : tie.Need-returns
 returns c = search (edge-broken, needs)

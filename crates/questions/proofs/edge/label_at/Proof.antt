@@ -3,8 +3,6 @@ use Rattle.questions.proofs.Links.{label-out}
 use borrow.Author.Needs.{needs}
 use Rattle.questions.proofs.edge.label_at.Statement.{statement}
 use Rattle.questions.proofs.edge.label_at.Tie as tie
-use Rattle.questions.proofs.edge.label_at.Reads as reads
-use Rattle.questions.proofs.edge.label_at.Lts as lts
 
 mul-result : tie.Need-mul-result
 mul-result c = search needs

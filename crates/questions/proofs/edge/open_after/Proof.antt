@@ -3,9 +3,6 @@ use Rattle.questions.proofs.Links.{after-out, after-open, after-shut}
 use borrow.Author.Needs.{needs}
 use Rattle.questions.proofs.edge.open_after.Statement.{statement}
 use Rattle.questions.proofs.edge.open_after.Tie as tie
-use Rattle.questions.proofs.edge.open_after.Reads as reads
-use Rattle.questions.proofs.edge.open_after.Lts as lts
-use Rattle.closes.proofs.level.open_at.Reads as open-at-reads
 
 returns : tie.Need-returns
 returns c = search (after-out, needs)

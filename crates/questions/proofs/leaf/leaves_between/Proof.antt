@@ -5,10 +5,6 @@ use Rattle.questions.proofs.Loops.{Leafing, leaf-start, leaf-on, leaf-f
 use borrow.Author.Needs.{needs}
 use Rattle.questions.proofs.leaf.leaves_between.Statement.{statement}
 use Rattle.questions.proofs.leaf.leaves_between.Tie as tie
-use Rattle.questions.proofs.leaf.leaves_between.Reads as reads
-use Rattle.questions.proofs.leaf.leaves_between.Lts as lts
-use Rattle.closes.proofs.level.open_at.Reads as open-at-reads
-use Rattle.questions.proofs.leaf.leaf.Reads as leaf-reads
 
 abbrev Inv-loop : tie.InvT-loop
 Inv-loop words bits p c total₀ i₀ total i = Leafing (bitsOf words bits) p c i total

@@ -3,11 +3,6 @@ use Rattle.questions.proofs.Summing.{size-is}
 use borrow.Author.Needs.{needs}
 use Rattle.questions.proofs.size.size_of.Statement.{statement}
 use Rattle.questions.proofs.size.size_of.Tie as tie
-use Rattle.questions.proofs.size.size_of.Reads as reads
-use Rattle.questions.proofs.size.size_of.Lts as lts
-use Rattle.questions.proofs.size.with.Reads as with-reads
-use Rattle.questions.proofs.size.with_level.Reads as with-level-reads
-use Rattle.words.proofs.word_count.Reads as word-count-reads
 
 with-level-requires : tie.Need-with-level-requires
 with-level-requires c κs = search needs

@@ -3,8 +3,6 @@ use Rattle.questions.proofs.Summing.{with-over, with-is, with-fits, wit
 use borrow.Author.Needs.{needs}
 use Rattle.questions.proofs.size.with.Statement.{statement}
 use Rattle.questions.proofs.size.with.Tie as tie
-use Rattle.questions.proofs.size.with.Reads as reads
-use Rattle.questions.proofs.size.with.Lts as lts
 
 enum-known-size : tie.Need-enum-known-size
 enum-known-size c = search needs

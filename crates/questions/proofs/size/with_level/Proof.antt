@@ -3,10 +3,6 @@ use Rattle.questions.proofs.Summing.{with-level}
 use borrow.Author.Needs.{needs}
 use Rattle.questions.proofs.size.with_level.Statement.{statement}
 use Rattle.questions.proofs.size.with_level.Tie as tie
-use Rattle.questions.proofs.size.with_level.Reads as reads
-use Rattle.questions.proofs.size.with_level.Lts as lts
-use Rattle.questions.proofs.size.with.Reads as with-reads
-use Rattle.words.proofs.word_count.Reads as word-count-reads
 
 mul-word-count : tie.Need-mul-word-count
 mul-word-count c = search needs
