@@ -70,15 +70,15 @@ module _ (ws : List ℕ) (n m v k : ℕ) (p : Longer) (s : List ℕ) (q : placin
       → (o : Built) → said o ≡ saidRaised r → raising (said o) b t ≡ stagedIn (firstOf (longerChecks ws n m v k)) (grown (bitsOf ws m) v) (suc n) a labels k
   unfolding grown
   longer-raised a labels r b t f o g =
-        let l : length (longest ws m v) ≡ suc n = longer-count ws n m v k (placed .0) in
-        let u : n + 2 ≡ length (longest ws m v) + 1 = omega (arith, l) in
-        let w : n + 1 ≡ length (longest ws m v) = omega (arith, l) in
-        ap (λ x. raising x b t) g
-        ∙ list-raised (firstOf (longerChecks ws n m v k)) (longest ws m v) a labels k (placed .0) (longer-listed ws n m v k (placed .0)) s
-        (placed .1 ∙ ap (λ x. holding x k (string (longest ws m v))) u)
-        (raising (saidRaised r) b t)
-        (f ∙ ap (λ x. raiseIn s x a labels) w)
-        ∙ ap (λ x. stagedIn (firstOf (longerChecks ws n m v k)) (string (longest ws m v)) x a labels k) l
+      let l : length (longest ws m v) ≡ suc n = longer-count ws n m v k (placed .0) in
+      let u : n + 2 ≡ length (longest ws m v) + 1 = omega (arith, l) in
+      let w : n + 1 ≡ length (longest ws m v) = omega (arith, l) in
+      ap (λ x. raising x b t) g
+      ∙ list-raised (firstOf (longerChecks ws n m v k)) (longest ws m v) a labels k (placed .0) (longer-listed ws n m v k (placed .0)) s
+      (placed .1 ∙ ap (λ x. holding x k (string (longest ws m v))) u)
+      (raising (saidRaised r) b t)
+      (f ∙ ap (λ x. raiseIn s x a labels) w)
+      ∙ ap (λ x. stagedIn (firstOf (longerChecks ws n m v k)) (string (longest ws m v)) x a labels k) l
 
 module _ (ws : List ℕ) (n m v k : ℕ) (a : Held) (labels : ℕ) (p : Longer) (s : List ℕ) (q : placing (place.said p) s ≡ longerIn ws n m v k) where
   refuses : (x : Verdict) (r : Refusal) → refusalOf x ≡ some r → place.said p ≡ some r → (o : Built) → o ≡ refusedOf x

@@ -11,10 +11,18 @@ ghost use Rattle.parentheses.specs.Raises.{raising};
 ghost use Rattle.parentheses.specs.Writes.{heldAt};
 ghost use Rattle.balanced_parens.specs.Said.{said};
 ghost use Rattle.balanced_parens.specs.Areas.{after, lentAt, roomsFor, stagedIn, Cleared, Blank};
-use crate::answer::{Built, Verdict, answer, is_made, refuse};
+use crate::answer::Built;
+use crate::answer::Verdict;
+use crate::answer::answer;
+use crate::answer::is_made;
+use crate::answer::refuse;
 use parentheses::levels::raise;
-use pioneers::string::{Placed, place};
-use words::{zero16, zero32, zero64, zero8};
+use pioneers::string::Placed;
+use pioneers::string::place;
+use words::zero8;
+use words::zero16;
+use words::zero32;
+use words::zero64;
 
 // MANY, LEVEL, ROOM for scratch and what the level builder refuses leave areas 0 to 3 as they stood; else they hold the levels of the
 // list's string, to their ends. `labels` is the length of area 4. Scratch is zero after it.
@@ -84,7 +92,15 @@ fn build_list(
     requires { ⌜ (length (now levels) ≡ length (now labels)) × Blank (now words) (now bytes) (now middles) (now larges) (now «label_area») ⌝ }
     ensures { λ r. ⌜ after (said r) (lentAt (now (words .exit)) (now (bytes .exit)) (now (middles .exit)) (now (larges .exit)) (now («label_area» .exit)) (now (scratch .exit))) ≡ build (now (levels .entry)) (now (labels .entry)) (roomsFor (now (words .entry)) (now (bytes .entry)) (now (middles .entry)) (now (larges .entry)) (now («label_area» .entry)) (now (scratch .entry))) ⌝ }
 {
-    let b = raise_list(levels, words, bytes, middles, larges, label_area.len(), scratch);
+    let b = raise_list(
+        levels,
+        words,
+        bytes,
+        middles,
+        larges,
+        label_area.len(),
+        scratch,
+    );
     let v = b.verdict;
     if is_made(v) {
         copy_labels(labels, label_area);
@@ -111,5 +127,14 @@ pub fn build(
         zero64(scratch);
         return refuse(Verdict::Lengths);
     }
-    build_list(levels, labels, words, bytes, middles, larges, label_area, scratch)
+    build_list(
+        levels,
+        labels,
+        words,
+        bytes,
+        middles,
+        larges,
+        label_area,
+        scratch,
+    )
 }

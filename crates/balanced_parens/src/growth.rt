@@ -11,8 +11,13 @@ ghost use Rattle.parentheses.specs.Raises.{raising};
 ghost use Rattle.parentheses.specs.Writes.{heldAt};
 ghost use Rattle.balanced_parens.specs.Said.{said};
 ghost use Rattle.balanced_parens.specs.Areas.{after, lentAt, stagedIn};
-use crate::answer::{Built, Verdict, answer, is_made, refuse};
-use longer::{Longer, place_longer};
+use crate::answer::Built;
+use crate::answer::Verdict;
+use crate::answer::answer;
+use crate::answer::is_made;
+use crate::answer::refuse;
+use longer::Longer;
+use longer::place_longer;
 use parentheses::levels::raise;
 use record::Counts;
 
@@ -59,7 +64,17 @@ pub fn grow(
 {
     let n = c.nodes;
     let m = c.bits[0];
-    let b = raise_longer(words, bytes, middles, larges, label_area.len(), scratch, n, m, level);
+    let b = raise_longer(
+        words,
+        bytes,
+        middles,
+        larges,
+        label_area.len(),
+        scratch,
+        n,
+        m,
+        level,
+    );
     let v = b.verdict;
     if is_made(v) {
         label_area[n] = label;

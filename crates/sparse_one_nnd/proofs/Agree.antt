@@ -1,11 +1,9 @@
 -- Any two outcomes that a contract allows agree: an answer can be told again from what it says.
 use mathlib.Core.Path.{_≡_, refl, sym, ap, _∙_}
 use mathlib.Core.Bool.{true, false}
-use mathlib.Core.List.{List}
 use Prim.Native.Nat.{ℕ}
 use lib.Dec.{eqb}
 use lib.ListN.{getD}
-use Rattle.meaning.specs.Answers as answers
 use Rattle.meaning.specs.Answers.{Answer, is, nothing, refused}
 use Rattle.meaning.specs.Dictionary.{Dict}
 use Rattle.meaning.specs.Direct.{Entries, DictAfter}

@@ -2,15 +2,15 @@
 use mathlib.Core.Path.{_≡_, refl, sym, ap, ap₂, _∙_}
 use mathlib.Core.Bool.{Bool, true, false}
 use mathlib.Core.Option.{Option, none, some}
-use mathlib.Core.List.{List, [], _∷_}
+use mathlib.Core.List.{List}
 use Prim.Native.Nat.{ℕ, zero, suc, pred, min, _+_, _*_, _-_, _/_, _^_, _≤_, _<_}
 use native.Mathlib.Numerals.{add-one}
 use native.Mathlib.Omega.{arith}
 use lib.Dec.{eqb}
 use lib.ListN.{length, getD, take, drop}
 use borrow.Author.Tests.{eq-eqb, ne-eqb, lt-ltb, le-ltb}
-use Rattle.meaning.specs.Answers.{Answer, is, nothing, refused, broken, orBroken}
-use Rattle.meaning.specs.Dictionary.{Dict, isEmpty, startAt, before, rankFrom, limit, rankOf, placed, startLarge, startMiddle, selectFrom, selectOf, predOf, selectNext, succBy, succOf}
+use Rattle.meaning.specs.Answers.{is, nothing, orBroken}
+use Rattle.meaning.specs.Dictionary.{Dict, isEmpty, before, rankFrom, rankOf, placed, startLarge, startMiddle, selectFrom, selectOf, predOf, selectNext, succBy, succOf}
 use Rattle.meaning.proofs.If.{if-true, if-false}
 use Rattle.sparse_one_nnd.specs.declared.Count.{Count}
 use Rattle.sparse_one_nnd.specs.declared.Count.the-variants as count

@@ -2,18 +2,17 @@
 use mathlib.Core.Path.{_≡_, refl, sym, ap, ap₂, _∙_}
 use mathlib.Core.Bool.{Bool, true, false}
 use mathlib.Core.List.{List, [], _∷_, _++_}
-use Prim.Native.Nat.{ℕ, zero, suc, _+_, _*_, _-_, _/_, _%_, _^_, _≤_, _<_, min}
+use Prim.Native.Nat.{ℕ, zero, suc, _+_, _*_, _-_, _/_, _≤_, _<_, min}
 use native.Mathlib.Decide.{decLe}
 use native.Mathlib.Nat.{zero-add, not-suc-le-zero}
 use native.Mathlib.Omega.{arith}
-use lib.Dec.{eqb}
-use lib.ListN.{length, take, drop, length-take, length-drop}
+use lib.ListN.{length, take, drop, length-take}
 use lib.Seq.{take-add, drop-drop}
 use borrow.Author.Tests.{eq-eqb, ne-eqb}
 use Rattle.meaning.specs.Bits.{opens, tab, bitAt, bitsOf}
 use Rattle.meaning.specs.Dictionary.{bump, endOf, blockCount}
 use Rattle.meaning.proofs.If.{if-true, if-false}
-use Rattle.meaning.proofs.Tab.{opens-append, opens-closes, length-tab}
+use Rattle.meaning.proofs.Tab.{opens-append, opens-closes}
 use Rattle.sparse_one_nnd.specs.Blocks.{lastOf}
 
 pub opens-le : (l : List Bool) → opens l ≤ length l

@@ -1,14 +1,14 @@
 -- Parts of the areas, and the questions asked of them.
-use mathlib.Core.Path.{_≡_, refl, sym, ap, ap₂, _∙_}
+use mathlib.Core.Path.{_≡_, sym, ap, ap₂, _∙_}
 use mathlib.Core.Bool.{Bool, true, false, _&&_}
 use mathlib.Core.List.{List, []}
 use Prim.Native.Nat.{ℕ, _+_, _*_, _-_, _/_, _^_, _≤_, _<_}
 use native.Mathlib.Omega.{arith}
-use lib.Dec.{leb, ltb}
+use lib.Dec.{leb}
 use lib.ListN.{length, take, drop, length-take, length-drop, drop-of-length-le}
 use lib.Seq.{take-all}
 use borrow.Author.Tests.{le-leb, lt-leb, lt-ltb, le-ltb}
-use Rattle.meaning.specs.Answers.{Answer, is, refused, broken, orBroken}
+use Rattle.meaning.specs.Answers.{Answer, refused, broken, orBroken}
 use Rattle.meaning.specs.Dictionary.{Dict, rankOf, selectOf, predOf, succOf}
 use Rattle.meaning.specs.Direct.{dictIn, entriesFit, ifFit, dictRank, dictSelect, dictPred, dictSucc, dictPast, dictSize}
 use Rattle.meaning.specs.Questions.{sized}

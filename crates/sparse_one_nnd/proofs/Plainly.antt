@@ -1,8 +1,7 @@
 -- THE END: on what a build left, rank, select, pred and succ are the plain count and places, for every place and rank.
-use mathlib.Core.Path.{_≡_, sym, ap₂, _∙_}
+use mathlib.Core.Path.{_≡_, ap₂, _∙_}
 use mathlib.Core.List.{List}
 use Prim.Native.Nat.{ℕ}
-use Rattle.meaning.specs.Answers.{is}
 use Rattle.meaning.specs.Bits.{bitsOf}
 use Rattle.meaning.specs.Plain.{plainRank, plainSelect, plainPred, plainSucc}
 use Rattle.meaning.specs.Direct.{DictRooms, dictBuild, dictRank, dictSelect, dictPred, dictSucc}

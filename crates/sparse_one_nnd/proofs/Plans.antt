@@ -1,6 +1,5 @@
 -- From the first pass to the plan, on each way.
-use mathlib.Core.Path.{_≡_, refl, sym, ap, ap₂, _∙_, subst}
-use mathlib.Core.Option.{none}
+use mathlib.Core.Path.{_≡_, sym, ap, _∙_, subst}
 use mathlib.Core.List.{List}
 use Prim.Native.Nat.{ℕ, _+_, _*_, _/_, _≤_}
 use native.Mathlib.Omega.{arith}
@@ -8,7 +7,7 @@ use lib.ListN.{length, take, drop, take-append-drop}
 use Rattle.meaning.specs.Answers.{is, refused}
 use Rattle.meaning.specs.Bits.{opens, bitsOf}
 use Rattle.meaning.specs.Dictionary.{endOf, bytesOf, bytePos, onesTo, blockCount, dictOf, dictWith, middlePos, middleRank, largePos, largeRank}
-use Rattle.meaning.specs.Direct.{Entries, entriesOf, dictPlan}
+use Rattle.meaning.specs.Direct.{entriesOf, dictPlan}
 use Rattle.meaning.proofs.Tab.{opens-append}
 use Rattle.meaning.proofs.Rank.{past-end, length-pairUp}
 use Rattle.meaning.proofs.Narrow.{bytes-ones, end-le}

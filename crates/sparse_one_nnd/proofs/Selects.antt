@@ -1,14 +1,13 @@
 -- One step of the walk of select, on each way, where only a place that is found is tested for overflow.
 use mathlib.Core.Path.{_≡_, refl, sym, ap, ap₂, _∙_}
-use mathlib.Core.Bool.{true, false}
 use mathlib.Core.List.{List, [], _∷_}
 use Prim.Native.Nat.{ℕ, zero, suc, pred, _+_, _*_, _-_, _/_, _^_, _≤_, _<_}
-use native.Mathlib.Nat.{not-suc-le-zero, le-of-suc-le-suc, add-zero}
+use native.Mathlib.Nat.{not-suc-le-zero, le-of-suc-le-suc}
 use native.Mathlib.Omega.{arith}
 use lib.ListN.{length, getD, drop, length-drop, drop-of-length-le}
 use lib.Seq.{drop-drop, getD-drop}
 use borrow.Author.Tests.{le-leb, lt-leb, lt-ltb, le-ltb}
-use Rattle.meaning.specs.Answers.{Answer, is, nothing, refused, broken}
+use Rattle.meaning.specs.Answers.{Answer, is, refused, broken}
 use Rattle.meaning.specs.Dictionary.{nth, plus, placed, selectWalk, selectStart}
 use Rattle.meaning.proofs.If.{if-true, if-false}
 use Rattle.sparse_one_nnd.specs.declared.Found.{Found}

@@ -3,15 +3,15 @@ use mathlib.Core.Path.{_≡_, refl, sym, ap, ap₂, _∙_}
 use mathlib.Core.Bool.{Bool, true, false, _&&_}
 use mathlib.Core.Option.{Option, none, some}
 use mathlib.Core.List.{List, [], _∷_}
-use Prim.Native.Nat.{ℕ, suc, _+_, _*_, _-_, _/_, _%_, _^_, _≤_, _<_}
+use Prim.Native.Nat.{ℕ, _+_, _*_, _-_, _/_, _%_, _^_, _≤_, _<_}
 use native.Mathlib.Decide.{decLt}
 use native.Mathlib.Omega.{arith}
 use lib.Dec.{leb, ltb}
 use lib.ListN.{length, getD, drop}
 use borrow.Author.Tests.{le-leb, lt-leb, lt-ltb, le-ltb}
-use Rattle.meaning.specs.Answers.{Answer, is, nothing, refused, broken, orBroken}
+use Rattle.meaning.specs.Answers.{refused, broken}
 use Rattle.meaning.specs.Dictionary as dictionary
-use Rattle.meaning.specs.Dictionary.{Dict, startAt, rankWalk, rankFrom, limit, placed, selectStart, selectFrom}
+use Rattle.meaning.specs.Dictionary.{Dict, startAt, rankWalk, rankFrom, placed, selectStart, selectFrom}
 use Rattle.meaning.proofs.If.{if-true, if-false, and-true}
 use Rattle.sparse_one_nnd.specs.declared.Count.{Count}
 use Rattle.sparse_one_nnd.specs.declared.Count.the-variants as count

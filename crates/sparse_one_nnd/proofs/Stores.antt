@@ -4,10 +4,9 @@ use mathlib.Core.Bool.{Bool, true, false}
 use mathlib.Core.List.{List, [], _∷_, _++_, append-nil}
 use Prim.Native.Nat.{ℕ, zero, suc, _+_, _*_, _-_, _/_, _%_, _≤_, _<_, min}
 use native.Mathlib.Decide.{decLe}
-use native.Mathlib.Nat.{add-zero, not-suc-le-zero}
+use native.Mathlib.Nat.{add-zero}
 use native.Mathlib.Numerals.{add-one}
 use native.Mathlib.Omega.{arith}
-use lib.Dec.{eqb}
 use lib.ListN.{length, take, drop, set, length-append, length-set, length-take}
 use lib.Seq.{sets, length-sets}
 use borrow.Author.Tests.{eq-eqb, ne-eqb}
@@ -118,16 +117,17 @@ module _ {f : ℕ → Bool} {from k at : ℕ} {B₀ B : List ℕ} {next i : ℕ}
 
 -- a block: its count and then its offsets
 module _ (ws : List ℕ) (n b k : ℕ) (e : k ≡ min 256 (n - 256 * b)) where
-  pub block-fits : (at c : ℕ) (B : List ℕ) → n ≤ 2097152 → 256 * b ≤ n → at + 1 + opens (blockAt ws n b) ≤ length B
-      → OffsetsFit ws (set B at c) (256 * b) k (at + 1)
-  block-fits at c B few here room =
-      record { few = omega arith; small = omega arith; room = omega (arith, length-set B at c, ap opens (block-tab ws n b k e)) }
+  pub block-fits : (at c : ℕ) (B C : List ℕ) → n ≤ 2097152 → 256 * b ≤ n → at + 1 + opens (blockAt ws n b) ≤ length B → C ≡ set B at c
+      → OffsetsFit ws C (256 * b) k (at + 1)
+  block-fits at c B C few here room q =
+      record { few = omega arith; small = omega arith; room = omega (arith, ap length q, length-set B at c, ap opens (block-tab ws n b k e)) }
 
-  pub block-put : (at c : ℕ) (B E : List ℕ) → c ≡ opens (blockAt ws n b)
-      → E ≡ sets (set B at c) (at + 1) (places 0 (tab (bitAt ws) (256 * b) k)) → E ≡ sets B at (block (blockAt ws n b))
+  pub block-put : (at c : ℕ) (B C E : List ℕ) → c ≡ opens (blockAt ws n b) → C ≡ set B at c
+      → E ≡ sets C (at + 1) (places 0 (tab (bitAt ws) (256 * b) k)) → E ≡ sets B at (block (blockAt ws n b))
   unfolding block
-  block-put at c B E f w =
+  block-put at c B C E f q w =
       w
+      ∙ ap (λ (l : List ℕ). sets l (at + 1) (places 0 (tab (bitAt ws) (256 * b) k))) q
       ∙ ap (λ (i : ℕ). sets (set B at c) i (places 0 (tab (bitAt ws) (256 * b) k))) (add-one at)
       ∙ ap₂ (λ (j : ℕ) (o : List ℕ). sets (set B at j) (suc at) o) (f ∙ sym (length-places 0 (blockAt ws n b))) (ap (places 0) (block-tab ws n b k e))
 

@@ -2,8 +2,8 @@
 use mathlib.Core.Path.{_≡_, refl, sym, ap, ap₂, _∙_}
 use mathlib.Core.Bool.{Bool, true, false}
 use mathlib.Core.List.{List, [], _∷_, _++_}
-use Prim.Native.Nat.{ℕ, zero, suc, _+_, _*_, _-_, _/_, _%_, _^_, _≤_, _<_, min}
-use native.Mathlib.Nat.{add-zero, not-suc-le-zero, pow-suc}
+use Prim.Native.Nat.{ℕ, zero, suc, _+_, _-_, _/_, _%_, _^_, _≤_, _<_, min}
+use native.Mathlib.Nat.{add-zero, not-suc-le-zero}
 use native.Mathlib.Omega.{arith}
 use lib.Count.{under, trailingZeros}
 use lib.Dec.{eqb}
@@ -11,7 +11,7 @@ use lib.ListN.{length, getD}
 use lib.Pow.{shr-shr}
 use borrow.Author.Tests.{eq-eqb, ne-eqb}
 use Rattle.meaning.specs.Bits.{opens, tab, places, bit, asBit, bitAt}
-use Rattle.meaning.proofs.Tab.{opens-append, opens-closes, length-tab, tab-snoc, tab-add}
+use Rattle.meaning.proofs.Tab.{opens-append, length-tab, tab-snoc, tab-add}
 use Rattle.sparse_one_nnd.specs.declared.first_pass.Stretch.{Stretch}
 use Rattle.sparse_one_nnd.specs.Blocks.{StretchIs}
 use Rattle.sparse_one_nnd.proofs.Blocks.{opens-le}

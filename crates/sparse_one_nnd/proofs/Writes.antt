@@ -1,22 +1,20 @@
 -- From the first pass to a write, on each way, and from a write over zeros to a build.
-use mathlib.Core.Path.{_≡_, refl, sym, ap, ap₂, _∙_, subst}
-use mathlib.Core.Option.{none, some}
-use mathlib.Core.List.{List, [], _∷_}
+use mathlib.Core.Path.{_≡_, sym, ap, ap₂, _∙_, subst}
+use mathlib.Core.List.{List}
 use Prim.Native.Nat.{ℕ, _+_, _*_, _-_, _/_, _≤_, _<_}
 use native.Mathlib.Omega.{arith}
 use lib.ListN.{length, replicate}
 use lib.Seq.{sets}
 use Rattle.meaning.specs.Answers.{Answer, is, refused}
-use Rattle.meaning.specs.Bits.{opens, bitsOf}
-use Rattle.meaning.specs.Dictionary.{Dict, bytesOf, blockCount, dictOf, dictWith}
+use Rattle.meaning.specs.Bits.{bitsOf}
+use Rattle.meaning.specs.Dictionary.{Dict, bytesOf, dictOf, dictWith}
 use Rattle.meaning.specs.Refusals.{fullBlock}
 use Rattle.meaning.specs.Direct.{Entries, DictRooms, DictAfter, DictAccepted, dictRooms, dictPut, dictZeroed, dictWrite, dictBuild}
 use Rattle.meaning.proofs.Narrow.{NoFull, no-full}
 use Rattle.meaning.proofs.Stored.{length-bits}
 use Rattle.meaning.proofs.Direct.{direct-broken, direct-many, direct-room-1, direct-room-2, direct-room-3}
-use Rattle.meaning.proofs.Planned.{PlanFull, write-refused, write-accepted, refused-full, write-build}
+use Rattle.meaning.proofs.Planned.{write-refused, write-accepted, refused-full, write-build}
 use Rattle.sparse_one_nnd.specs.declared.SparseOneNnd.{SparseOneNnd}
-use Rattle.sparse_one_nnd.specs.declared.Built.{Built}
 use Rattle.sparse_one_nnd.specs.declared.Built.the-variants as built
 use Rattle.sparse_one_nnd.specs.declared.first_pass.Pass.{Pass}
 use Rattle.sparse_one_nnd.specs.declared.first_pass.Pass.the-variants as pass

@@ -1,6 +1,6 @@
 // The entries of a level's own part, and where a walk starts from them.
 ghost use mathlib.Core.Path.{_≡_};
-ghost use Prim.Native.Nat.{pred, min, _+_, _-_, _*_, _/_};
+ghost use Prim.Native.Nat.{pred, min, _+_, _-_, _/_};
 ghost use lib.Dec.{eqb};
 ghost use Rattle.meaning.specs.Dictionary.{startAt};
 ghost use Rattle.sparse_one_nnd.specs.Said.{dictAt};

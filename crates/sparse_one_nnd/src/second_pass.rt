@@ -1,8 +1,8 @@
 // The second pass of a build: the entries and the blocks, written past `from` entries of each kind.
 ghost use mathlib.Core.Path.{_≡_};
-ghost use Prim.Native.Nat.{_+_, _-_, _*_, _/_, _<_, _≤_};
+ghost use Prim.Native.Nat.{_+_, _*_, _/_, _<_};
 ghost use mathlib.Core.List.{[], _∷_};
-ghost use lib.ListN.{length};
+ghost use lib.ListN.{length, set};
 ghost use lib.Seq.{sets};
 ghost use Rattle.meaning.specs.Bits.{opens, tab, places, asBit, bitAt, bitsOf};
 ghost use Rattle.meaning.specs.Dictionary.{block, dictWith};
@@ -99,6 +99,14 @@ fn put_offsets(ws: &[u64], bytes: &mut [u8], from: usize, k: usize, at: usize)
     }
 }
 
+// The count byte of a block of c ones.
+fn put_count(bytes: &mut [u8], at: usize, c: usize)
+    requires { ⌜ (at < length (now bytes)) × (c < 256) ⌝ }
+    ensures { λ _. ⌜ now (bytes .exit) ≡ set (now (bytes .entry)) at c ⌝ }
+{
+    bytes[at] = c as u8;
+}
+
 // Block b: its count and its offsets.
 fn put_block(ws: &[u64], n: usize, bytes: &mut [u8], o: usize, b: usize, s: Writing) -> Writing
     requires { ⌜ BlockFits (now ws) n o b s (now bytes) ⌝ }
@@ -109,7 +117,7 @@ fn put_block(ws: &[u64], n: usize, bytes: &mut [u8], o: usize, b: usize, s: Writ
     let home = s.home;
     let base = s.base;
     let c = block_ones(ws, n, b);
-    bytes[o + at] = narrow8(c);
+    put_count(bytes, o + at, c);
     let from = SparseOneNnd::SMALL_SIZE * b;
     let k = lesser(SparseOneNnd::SMALL_SIZE, n - from);
     put_offsets(ws, bytes, from, k, o + at + 1);

@@ -23,10 +23,7 @@ fn digits(d: Sum, x: u8) -> Sum {
     if n < 100 {
         return more(more(d, 48 + n / 10), 48 + n % 10);
     }
-    more(
-        more(more(d, 48 + n / 100), 48 + n / 10 % 10),
-        48 + n % 10,
-    )
+    more(more(more(d, 48 + n / 100), 48 + n / 10 % 10), 48 + n % 10)
 }
 
 pub fn digest(bytes: &[u8], n: usize) -> Sum {

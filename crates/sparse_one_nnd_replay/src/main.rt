@@ -73,7 +73,15 @@ fn argument(args: &[usize], i: usize) -> usize {
 }
 
 // Whether the record's entry of field f is right: at index x, or at argument x.
-fn right(k: Case, bytes: &[u8], middles: &[u16], larges: &[u64], f: usize, x: usize, e: Entry) -> bool {
+fn right(
+    k: Case,
+    bytes: &[u8],
+    middles: &[u16],
+    larges: &[u64],
+    f: usize,
+    x: usize,
+    e: Entry,
+) -> bool {
     if k.full {
         return same(e, Entry::Stopped);
     }
@@ -91,7 +99,17 @@ fn right(k: Case, bytes: &[u8], middles: &[u16], larges: &[u64], f: usize, x: us
 }
 
 // One entry of field f, ended by the byte `stop`.
-fn compare(text: &[u8], r: Run, k: Case, bytes: &[u8], middles: &[u16], larges: &[u64], f: usize, x: usize, stop: u8) -> Run {
+fn compare(
+    text: &[u8],
+    r: Run,
+    k: Case,
+    bytes: &[u8],
+    middles: &[u16],
+    larges: &[u64],
+    f: usize,
+    x: usize,
+    stop: u8,
+) -> Run {
     let got = next_entry(text, r.at);
     let next = moved(r, got.next);
     if got.stop != stop {
@@ -102,7 +120,16 @@ fn compare(text: &[u8], r: Run, k: Case, bytes: &[u8], middles: &[u16], larges: 
 }
 
 // The entries of field f, one after another.
-fn entries(text: &[u8], r: Run, k: Case, bytes: &[u8], middles: &[u16], larges: &[u64], args: &[usize], f: usize) -> Run {
+fn entries(
+    text: &[u8],
+    r: Run,
+    k: Case,
+    bytes: &[u8],
+    middles: &[u16],
+    larges: &[u64],
+    args: &[usize],
+    f: usize,
+) -> Run {
     let n = length(k, f);
     let last = if f == 7 { b'\n' } else { b'\t' };
     let mut run = r;
@@ -117,7 +144,16 @@ fn entries(text: &[u8], r: Run, k: Case, bytes: &[u8], middles: &[u16], larges: 
 }
 
 // Field f: an empty one, a digest, or its entries.
-fn field(text: &[u8], r: Run, k: Case, bytes: &[u8], middles: &[u16], larges: &[u64], args: &[usize], f: usize) -> Run {
+fn field(
+    text: &[u8],
+    r: Run,
+    k: Case,
+    bytes: &[u8],
+    middles: &[u16],
+    larges: &[u64],
+    args: &[usize],
+    f: usize,
+) -> Run {
     let first = next_entry(text, r.at);
     let e = first.entry;
     if let Entry::Digest(a, b) = e {
@@ -134,7 +170,15 @@ fn field(text: &[u8], r: Run, k: Case, bytes: &[u8], middles: &[u16], larges: &[
     entries(text, r, k, bytes, middles, larges, args, f)
 }
 
-fn fields(text: &[u8], r: Run, k: Case, bytes: &[u8], middles: &[u16], larges: &[u64], args: &[usize]) -> Run {
+fn fields(
+    text: &[u8],
+    r: Run,
+    k: Case,
+    bytes: &[u8],
+    middles: &[u16],
+    larges: &[u64],
+    args: &[usize],
+) -> Run {
     let mut run = r;
     let mut f: usize = 0;
     while f < 8 {
@@ -150,7 +194,14 @@ fn is_broken(e: Entry) -> bool {
 }
 
 // The four questions at one argument.
-fn ask_damaged(r: Run, c: SparseOneNnd, bytes: &[u8], middles: &[u16], larges: &[u64], x: usize) -> Run {
+fn ask_damaged(
+    r: Run,
+    c: SparseOneNnd,
+    bytes: &[u8],
+    middles: &[u16],
+    larges: &[u64],
+    x: usize,
+) -> Run {
     let mut run = r;
     run = asked_damaged(run, is_broken(answer(c, bytes, middles, larges, 4, x)));
     run = asked_damaged(run, is_broken(answer(c, bytes, middles, larges, 5, x)));
@@ -240,7 +291,15 @@ fn load(text: &[u8], at: usize, bits: usize, ws: &mut [u64], args: &mut [usize])
 }
 
 // The answers of a case, and then those of the damaged dictionary.
-fn check(text: &[u8], r: Run, k: Case, bytes: &mut [u8], middles: &[u16], larges: &[u64], args: &[usize]) -> Run {
+fn check(
+    text: &[u8],
+    r: Run,
+    k: Case,
+    bytes: &mut [u8],
+    middles: &[u16],
+    larges: &[u64],
+    args: &[usize],
+) -> Run {
     let run = fields(text, r, k, bytes, middles, larges, args);
     if k.full {
         return run;
@@ -250,14 +309,31 @@ fn check(text: &[u8], r: Run, k: Case, bytes: &mut [u8], middles: &[u16], larges
 }
 
 // A case built and asked.
-fn tried(text: &[u8], r: Run, l: Loaded, ws: &[u64], bytes: &mut [u8], middles: &mut [u16], larges: &mut [u64], args: &[usize]) -> Run {
+fn tried(
+    text: &[u8],
+    r: Run,
+    l: Loaded,
+    ws: &[u64],
+    bytes: &mut [u8],
+    middles: &mut [u16],
+    larges: &mut [u64],
+    args: &[usize],
+) -> Run {
     let made = SparseOneNnd::build(ws, l.bits, bytes, middles, larges);
     let k = case_of(made, l.ones, l.last, l.args);
     check(text, moved(r, l.next), k, bytes, middles, larges, args)
 }
 
 // One line: its kind, the length, the ones, the arguments, and the answers.
-fn line(text: &[u8], r: Run, ws: &mut [u64], bytes: &mut [u8], middles: &mut [u16], larges: &mut [u64], args: &mut [usize]) -> Run {
+fn line(
+    text: &[u8],
+    r: Run,
+    ws: &mut [u64],
+    bytes: &mut [u8],
+    middles: &mut [u16],
+    larges: &mut [u64],
+    args: &mut [usize],
+) -> Run {
     let kind = next_entry(text, r.at);
     let size = next_entry(text, kind.next);
     let n = size.entry;
@@ -269,7 +345,14 @@ fn line(text: &[u8], r: Run, ws: &mut [u64], bytes: &mut [u8], middles: &mut [u1
 }
 
 // All lines. A line is never empty, so the reading gets on.
-fn replay(text: &[u8], ws: &mut [u64], bytes: &mut [u8], middles: &mut [u16], larges: &mut [u64], args: &mut [usize]) -> Run {
+fn replay(
+    text: &[u8],
+    ws: &mut [u64],
+    bytes: &mut [u8],
+    middles: &mut [u16],
+    larges: &mut [u64],
+    args: &mut [usize],
+) -> Run {
     let mut run = Run {
         at: 0,
         answers: 0,

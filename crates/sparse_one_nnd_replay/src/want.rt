@@ -92,7 +92,14 @@ pub fn held(k: Case, bytes: &[u8], middles: &[u16], larges: &[u64], f: usize, i:
 }
 
 // The answer of field 4 to 7 at x.
-pub fn answer(c: SparseOneNnd, bytes: &[u8], middles: &[u16], larges: &[u64], f: usize, x: usize) -> Entry {
+pub fn answer(
+    c: SparseOneNnd,
+    bytes: &[u8],
+    middles: &[u16],
+    larges: &[u64],
+    f: usize,
+    x: usize,
+) -> Entry {
     if f == 4 {
         return counted(c.rank_one(bytes, middles, larges, x));
     }

@@ -3,13 +3,6 @@ use Rattle.sparse_one_nnd.proofs.Writes.{write-zeros}
 use borrow.Author.Needs.{needs}
 use Rattle.sparse_one_nnd.proofs.SparseOneNnd.build.Statement.{statement}
 use Rattle.sparse_one_nnd.proofs.SparseOneNnd.build.Tie as tie
-use Rattle.sparse_one_nnd.proofs.SparseOneNnd.build.Reads as reads
-use Rattle.sparse_one_nnd.proofs.SparseOneNnd.build.Lts as lts
-use Rattle.sparse_one_nnd.proofs.SparseOneNnd.empty.Reads as empty-reads
-use Rattle.sparse_one_nnd.proofs.SparseOneNnd.write.Reads as write-reads
-use Rattle.words.proofs.zero16.Reads as zero16-reads
-use Rattle.words.proofs.zero64.Reads as zero64-reads
-use Rattle.words.proofs.zero8.Reads as zero8-reads
 
 zero8-requires : tie.Need-zero8-requires
 zero8-requires c κs = search needs

@@ -3,8 +3,6 @@ use Rattle.sparse_one_nnd.proofs.Parts.{size-middles, size-larges, size
 use borrow.Author.Needs.{needs}
 use Rattle.sparse_one_nnd.proofs.SparseOneNnd.byte_size.Statement.{statement}
 use Rattle.sparse_one_nnd.proofs.SparseOneNnd.byte_size.Tie as tie
-use Rattle.sparse_one_nnd.proofs.SparseOneNnd.byte_size.Reads as reads
-use Rattle.sparse_one_nnd.proofs.SparseOneNnd.byte_size.Lts as lts
 
 sub-if1 : tie.Need-sub-if1
 sub-if1 c = search needs

@@ -3,10 +3,6 @@ use Rattle.sparse_one_nnd.proofs.Plans.{fits-few, said-broken, said-man
 use borrow.Author.Needs.{needs}
 use Rattle.sparse_one_nnd.proofs.SparseOneNnd.plan.Statement.{statement}
 use Rattle.sparse_one_nnd.proofs.SparseOneNnd.plan.Tie as tie
-use Rattle.sparse_one_nnd.proofs.SparseOneNnd.plan.Reads as reads
-use Rattle.sparse_one_nnd.proofs.SparseOneNnd.plan.Lts as lts
-use Rattle.sparse_one_nnd.proofs.first_pass.counts_of.Reads as counts-of-reads
-use Rattle.sparse_one_nnd.proofs.first_pass.scan.Reads as scan-reads
 
 scan-requires : tie.Need-scan-requires
 scan-requires c κs = search needs

@@ -3,10 +3,6 @@ use Rattle.sparse_one_nnd.proofs.Writes.{write-broken, write-many, writ
 use borrow.Author.Needs.{needs}
 use Rattle.sparse_one_nnd.proofs.SparseOneNnd.write.Statement.{statement}
 use Rattle.sparse_one_nnd.proofs.SparseOneNnd.write.Tie as tie
-use Rattle.sparse_one_nnd.proofs.SparseOneNnd.write.Reads as reads
-use Rattle.sparse_one_nnd.proofs.SparseOneNnd.write.Lts as lts
-use Rattle.sparse_one_nnd.proofs.first_pass.scan.Reads as scan-reads
-use Rattle.sparse_one_nnd.proofs.write.write_fits.Reads as write-fits-reads
 
 scan-requires : tie.Need-scan-requires
 scan-requires c κs = search needs

@@ -2,8 +2,6 @@ use Rattle.sparse_one_nnd.proofs.Lists.{empty-if, bytes-there, middles-
 use borrow.Author.Needs.{needs}
 use Rattle.sparse_one_nnd.proofs.entries.no_entries.Statement.{statement}
 use Rattle.sparse_one_nnd.proofs.entries.no_entries.Tie as tie
-use Rattle.sparse_one_nnd.proofs.entries.no_entries.Reads as reads
-use Rattle.sparse_one_nnd.proofs.entries.no_entries.Lts as lts
 
 -- src/entries.rt:48:13
 returns : tie.Need-returns

@@ -2,10 +2,6 @@ use Rattle.sparse_one_nnd.proofs.Starts.{start-large, start-middle, sta
 use borrow.Author.Needs.{needs}
 use Rattle.sparse_one_nnd.proofs.entries.start_of.Statement.{statement}
 use Rattle.sparse_one_nnd.proofs.entries.start_of.Tie as tie
-use Rattle.sparse_one_nnd.proofs.entries.start_of.Reads as reads
-use Rattle.sparse_one_nnd.proofs.entries.start_of.Lts as lts
-use Rattle.sparse_one_nnd.proofs.entries.wide16.Reads as wide16-reads
-use Rattle.sparse_one_nnd.proofs.entries.wide64.Reads as wide64-reads
 
 -- src/entries.rt:70:9
 returns : tie.Need-returns

@@ -3,8 +3,6 @@ use Rattle.sparse_one_nnd.proofs.Stretches.{add-true, add-false}
 use borrow.Author.Needs.{needs}
 use Rattle.sparse_one_nnd.proofs.first_pass.add_one.Statement.{statement}
 use Rattle.sparse_one_nnd.proofs.first_pass.add_one.Tie as tie
-use Rattle.sparse_one_nnd.proofs.first_pass.add_one.Reads as reads
-use Rattle.sparse_one_nnd.proofs.first_pass.add_one.Lts as lts
 
 add-result : tie.Need-add-result
 add-result c = search needs

@@ -3,10 +3,6 @@ use Rattle.sparse_one_nnd.proofs.Blocks.{block-count}
 use borrow.Author.Needs.{needs}
 use Rattle.sparse_one_nnd.proofs.first_pass.block_ones.Statement.{statement}
 use Rattle.sparse_one_nnd.proofs.first_pass.block_ones.Tie as tie
-use Rattle.sparse_one_nnd.proofs.first_pass.block_ones.Reads as reads
-use Rattle.sparse_one_nnd.proofs.first_pass.block_ones.Lts as lts
-use Rattle.sparse_one_nnd.proofs.first_pass.count_ones.Reads as count-ones-reads
-use Rattle.sparse_one_nnd.proofs.first_pass.lesser.Reads as lesser-reads
 
 mul-from : tie.Need-mul-from
 mul-from c = search needs

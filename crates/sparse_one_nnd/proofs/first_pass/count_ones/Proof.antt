@@ -7,10 +7,6 @@ use Rattle.meaning.specs.Bits.{bitAt}
 use Rattle.sparse_one_nnd.proofs.Stretches.{Adding, adding-start, adding-few, adding-on, adding-end}
 use Rattle.sparse_one_nnd.proofs.first_pass.count_ones.Statement.{statement}
 use Rattle.sparse_one_nnd.proofs.first_pass.count_ones.Tie as tie
-use Rattle.sparse_one_nnd.proofs.first_pass.count_ones.Reads as reads
-use Rattle.sparse_one_nnd.proofs.first_pass.count_ones.Lts as lts
-use Rattle.sparse_one_nnd.proofs.first_pass.add_one.Reads as add-one-reads
-use Rattle.sparse_one_nnd.proofs.first_pass.next_stretch.Reads as next-stretch-reads
 
 abbrev Inv-loop : tie.InvT-loop
 Inv-loop ws from k c₀ i₀ c i = Adding (bitAt ws) from k c i

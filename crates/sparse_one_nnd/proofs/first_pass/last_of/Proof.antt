@@ -3,8 +3,6 @@ use Rattle.sparse_one_nnd.proofs.Blocks.{last-of-none, last-of-some}
 use borrow.Author.Needs.{needs}
 use Rattle.sparse_one_nnd.proofs.first_pass.last_of.Statement.{statement}
 use Rattle.sparse_one_nnd.proofs.first_pass.last_of.Tie as tie
-use Rattle.sparse_one_nnd.proofs.first_pass.last_of.Reads as reads
-use Rattle.sparse_one_nnd.proofs.first_pass.last_of.Lts as lts
 
 returns : tie.Need-returns
 returns c = search (last-of-none, needs)

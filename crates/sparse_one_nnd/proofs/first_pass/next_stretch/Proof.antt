@@ -3,11 +3,6 @@ use Rattle.sparse_one_nnd.proofs.Stretches.{stretch-one, stretch-none}
 use borrow.Author.Needs.{needs}
 use Rattle.sparse_one_nnd.proofs.first_pass.next_stretch.Statement.{statement}
 use Rattle.sparse_one_nnd.proofs.first_pass.next_stretch.Tie as tie
-use Rattle.sparse_one_nnd.proofs.first_pass.next_stretch.Reads as reads
-use Rattle.sparse_one_nnd.proofs.first_pass.next_stretch.Lts as lts
-use Rattle.sparse_one_nnd.proofs.entries.wide32.Reads as wide32-reads
-use Rattle.sparse_one_nnd.proofs.first_pass.lesser.Reads as lesser-reads
-use Rattle.words.proofs.word_at.Reads as word-at-reads
 
 word-at-requires : tie.Need-word-at-requires
 word-at-requires c κs = search needs

@@ -3,10 +3,6 @@ use Rattle.sparse_one_nnd.proofs.Planning.{past-words, in-words, too-ma
 use borrow.Author.Needs.{needs}
 use Rattle.sparse_one_nnd.proofs.first_pass.scan.Statement.{statement}
 use Rattle.sparse_one_nnd.proofs.first_pass.scan.Tie as tie
-use Rattle.sparse_one_nnd.proofs.first_pass.scan.Reads as reads
-use Rattle.sparse_one_nnd.proofs.first_pass.scan.Lts as lts
-use Rattle.sparse_one_nnd.proofs.first_pass.scan_blocks.Reads as scan-blocks-reads
-use Rattle.words.proofs.enough.Reads as enough-reads
 
 enough-requires : tie.Need-enough-requires
 enough-requires c κs = search needs

@@ -6,10 +6,6 @@ use Rattle.sparse_one_nnd.proofs.Planning.{Planning, plan-start, plan-f
 use borrow.Author.Needs.{needs}
 use Rattle.sparse_one_nnd.proofs.first_pass.scan_blocks.Statement.{statement}
 use Rattle.sparse_one_nnd.proofs.first_pass.scan_blocks.Tie as tie
-use Rattle.sparse_one_nnd.proofs.first_pass.scan_blocks.Reads as reads
-use Rattle.sparse_one_nnd.proofs.first_pass.scan_blocks.Lts as lts
-use Rattle.sparse_one_nnd.proofs.first_pass.block_ones.Reads as block-ones-reads
-use Rattle.sparse_one_nnd.proofs.first_pass.last_of.Reads as last-of-reads
 
 abbrev Inv-loop : tie.InvT-loop
 Inv-loop ws n all blocks₀ ones₀ b₀ blocks ones b = Planning ws n blocks ones b

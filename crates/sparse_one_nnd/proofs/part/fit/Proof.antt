@@ -3,8 +3,6 @@ use borrow.Author.Needs.{needs}
 use Rattle.sparse_one_nnd.proofs.Parts.{unfit-bytes, unfit-middles, unfit-larges, fit-all}
 use Rattle.sparse_one_nnd.proofs.part.fit.Statement.{statement}
 use Rattle.sparse_one_nnd.proofs.part.fit.Tie as tie
-use Rattle.sparse_one_nnd.proofs.part.fit.Reads as reads
-use Rattle.sparse_one_nnd.proofs.part.fit.Lts as lts
 
 returns : tie.Need-returns
 returns c = search (unfit-bytes, needs)

@@ -4,8 +4,6 @@ use Rattle.sparse_one_nnd.proofs.Parts.{front-length, front-all}
 use borrow.Author.Needs.{needs}
 use Rattle.sparse_one_nnd.proofs.part.front8.Statement.{statement}
 use Rattle.sparse_one_nnd.proofs.part.front8.Tie as tie
-use Rattle.sparse_one_nnd.proofs.part.front8.Reads as reads
-use Rattle.sparse_one_nnd.proofs.part.front8.Lts as lts
 
 slice-aggregate-result : tie.Need-slice-aggregate-result
 slice-aggregate-result c = front-length _ _ (omega arith)

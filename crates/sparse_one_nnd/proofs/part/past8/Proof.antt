@@ -4,8 +4,6 @@ use Rattle.sparse_one_nnd.proofs.Parts.{past-rest, past-none}
 use borrow.Author.Needs.{needs}
 use Rattle.sparse_one_nnd.proofs.part.past8.Statement.{statement}
 use Rattle.sparse_one_nnd.proofs.part.past8.Tie as tie
-use Rattle.sparse_one_nnd.proofs.part.past8.Reads as reads
-use Rattle.sparse_one_nnd.proofs.part.past8.Lts as lts
 
 sub-result : tie.Need-sub-result
 sub-result c = search needs

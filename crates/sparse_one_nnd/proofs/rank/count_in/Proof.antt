@@ -6,9 +6,6 @@ use Rattle.sparse_one_nnd.proofs.Ranks.{Counting, count-start, count-en
 use borrow.Author.Needs.{needs}
 use Rattle.sparse_one_nnd.proofs.rank.count_in.Statement.{statement}
 use Rattle.sparse_one_nnd.proofs.rank.count_in.Tie as tie
-use Rattle.sparse_one_nnd.proofs.rank.count_in.Reads as reads
-use Rattle.sparse_one_nnd.proofs.rank.count_in.Lts as lts
-use Rattle.sparse_one_nnd.proofs.entries.wide8.Reads as wide8-reads
 
 abbrev Inv-loop : tie.InvT-loop
 Inv-loop bytes x r n at rank₀ left₀ i₀ rank left i = Counting (counted (leading x r n (drop at bytes))) x bytes rank left i

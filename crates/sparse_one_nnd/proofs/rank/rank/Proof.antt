@@ -3,11 +3,6 @@ use Rattle.sparse_one_nnd.proofs.Asked.{rank-empty, rank-is}
 use borrow.Author.Needs.{needs}
 use Rattle.sparse_one_nnd.proofs.rank.rank.Statement.{statement}
 use Rattle.sparse_one_nnd.proofs.rank.rank.Tie as tie
-use Rattle.sparse_one_nnd.proofs.rank.rank.Reads as reads
-use Rattle.sparse_one_nnd.proofs.rank.rank.Lts as lts
-use Rattle.sparse_one_nnd.proofs.entries.held.Reads as held-reads
-use Rattle.sparse_one_nnd.proofs.entries.no_entries.Reads as no-entries-reads
-use Rattle.sparse_one_nnd.proofs.rank.rank_from.Reads as rank-from-reads
 
 no-entries-requires : tie.Need-no-entries-requires
 no-entries-requires c κs = search needs

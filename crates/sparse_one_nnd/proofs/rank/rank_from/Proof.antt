@@ -4,10 +4,6 @@ use Rattle.sparse_one_nnd.proofs.Starts.{rank-broken, rank-begun}
 use borrow.Author.Needs.{needs}
 use Rattle.sparse_one_nnd.proofs.rank.rank_from.Statement.{statement}
 use Rattle.sparse_one_nnd.proofs.rank.rank_from.Tie as tie
-use Rattle.sparse_one_nnd.proofs.rank.rank_from.Reads as reads
-use Rattle.sparse_one_nnd.proofs.rank.rank_from.Lts as lts
-use Rattle.sparse_one_nnd.proofs.entries.start_of.Reads as start-of-reads
-use Rattle.sparse_one_nnd.proofs.rank.rank_walk.Reads as rank-walk-reads
 
 start-of-requires : tie.Need-start-of-requires
 start-of-requires c κs = search needs

@@ -7,10 +7,6 @@ use Rattle.sparse_one_nnd.proofs.Ranks.{Walking, walk-start, walk-end, 
 use borrow.Author.Needs.{needs}
 use Rattle.sparse_one_nnd.proofs.rank.rank_walk.Statement.{statement}
 use Rattle.sparse_one_nnd.proofs.rank.rank_walk.Tie as tie
-use Rattle.sparse_one_nnd.proofs.rank.rank_walk.Reads as reads
-use Rattle.sparse_one_nnd.proofs.rank.rank_walk.Lts as lts
-use Rattle.sparse_one_nnd.proofs.entries.wide8.Reads as wide8-reads
-use Rattle.sparse_one_nnd.proofs.rank.count_in.Reads as count-in-reads
 
 abbrev Inv-loop : tie.InvT-loop
 Inv-loop bytes x k r at left₀ rank₀ i₀ left rank i = Walking (counted (rankWalk x k r (drop at bytes))) x bytes left rank i

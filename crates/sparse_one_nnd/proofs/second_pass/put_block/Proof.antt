@@ -1,31 +1,20 @@
 -- `put_block` meets its contract: the count, then the offsets.
-use mathlib.Core.Path.{ap, _∙_}
-use lib.ListN.{length, length-set}
-use lib.Seq.{length-sets}
+use mathlib.Core.Path.{ap}
+use Prim.Native.Nat.{_+_}
 use Rattle.sparse_one_nnd.specs.Writing.{passed}
 use Rattle.sparse_one_nnd.proofs.Stores.{block-fits, block-put}
-use Prim.Native.Nat.{_+_}
 use borrow.Author.Needs.{needs}
 use Rattle.sparse_one_nnd.proofs.second_pass.put_block.Statement.{statement}
 use Rattle.sparse_one_nnd.proofs.second_pass.put_block.Tie as tie
-use Rattle.sparse_one_nnd.proofs.second_pass.put_block.Reads as reads
-use Rattle.sparse_one_nnd.proofs.second_pass.put_block.Lts as lts
-use Rattle.sparse_one_nnd.proofs.first_pass.block_ones.Reads as block-ones-reads
-use Rattle.sparse_one_nnd.proofs.first_pass.lesser.Reads as lesser-reads
-use Rattle.sparse_one_nnd.proofs.second_pass.narrow8.Reads as narrow8-reads
-use Rattle.sparse_one_nnd.proofs.second_pass.put_offsets.Reads as put-offsets-reads
 
 block-ones-requires : tie.Need-block-ones-requires
 block-ones-requires c κs = search needs
 
-narrow8-requires : tie.Need-narrow8-requires
-narrow8-requires c κs = search needs
+add-put-count : tie.Need-add-put-count
+add-put-count c = search needs
 
-add-bytes : tie.Need-add-bytes
-add-bytes c = search needs
-
-slice-write-bytes : tie.Need-slice-write-bytes
-slice-write-bytes c = search needs
+put-count-requires : tie.Need-put-count-requires
+put-count-requires c κs = search needs
 
 mul-from : tie.Need-mul-from
 mul-from c = search needs
@@ -43,10 +32,10 @@ add-put-offsets-2 : tie.Need-add-put-offsets-2
 add-put-offsets-2 c = search needs
 
 put-offsets-requires : tie.Need-put-offsets-requires
-put-offsets-requires c κs = let a = c .before .before .before .before .before .before .args in let p = c .before .before .before .before .before .before .pre in block-fits (a .ws .now) (a .n) (a .b) (c .before .lesser .result) (c .before .lesser .ensures) (a .o + a .s .at) (c .before .before .narrow8 .result) (a .bytes .now) (p .few) (p .here) (p .room)
+put-offsets-requires c κs = let a = c .before .before .before .before .before .before .before .before .before .args in let p = c .before .before .before .before .before .before .before .before .before .pre in block-fits (a .ws .now) (a .n) (a .b) (c .before .lesser .result) (c .before .lesser .ensures) (a .o + a .s .at) (c .before .before .before .before .before .before .block-ones .result) (a .bytes .now) _ (p .few) (p .here) (p .room) (c .before .before .before .before .put-count .ensures)
 
-add-t15 : tie.Need-add-t15
-add-t15 c = search needs
+add-t17 : tie.Need-add-t17
+add-t17 c = search needs
 
 add-t20 : tie.Need-add-t20
 add-t20 c = search needs
@@ -55,26 +44,25 @@ add-t21 : tie.Need-add-t21
 add-t21 c = search needs
 
 same-length : tie.Need-same-length
-same-length c = ap length (c .before .before .put-offsets .ensures) ∙ simp (length-sets, length-set)
+same-length c = search needs
 
 returns : tie.Need-returns
-returns c = let a = c .before .before .before .before .before .before .before .before .before .args in (ap (passed (a .s)) (c .before .before .before .before .before .before .block-ones .ensures), block-put (a .ws .now) (a .n) (a .b) (c .before .before .before .before .lesser .result) (c .before .before .before .before .lesser .ensures) (a .o + a .s .at) (c .before .before .before .before .before .narrow8 .result) (a .bytes .now) _ (c .before .before .before .before .before .narrow8 .ensures ∙ c .before .before .before .before .before .before .block-ones .ensures) (c .before .before .put-offsets .ensures))
+returns c = let a = c .before .before .before .before .before .before .before .before .before .before .before .before .args in (ap (passed (a .s)) (c .before .before .before .before .before .before .before .before .before .block-ones .ensures), block-put (a .ws .now) (a .n) (a .b) (c .before .before .before .before .lesser .result) (c .before .before .before .before .lesser .ensures) (a .o + a .s .at) (c .before .before .before .before .before .before .before .before .before .block-ones .result) (a .bytes .now) _ _ (c .before .before .before .before .before .before .before .before .before .block-ones .ensures) (c .before .before .before .before .before .before .before .put-count .ensures) (c .before .before .put-offsets .ensures))
 
 pub put-block-spec : {M : Type 1} → statement M
 put-block-spec =
     tie.close
     (tie.spec
     block-ones-requires
-    narrow8-requires
-    add-bytes
-    slice-write-bytes
+    add-put-count
+    put-count-requires
     mul-from
     sub-lesser
     lesser-requires
     add-put-offsets
     add-put-offsets-2
     put-offsets-requires
-    add-t15
+    add-t17
     add-t20
     add-t21
     same-length

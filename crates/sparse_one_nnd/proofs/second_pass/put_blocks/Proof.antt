@@ -3,14 +3,8 @@ use Prim.Native.Nat.{_-_, _≤_}
 use native.Mathlib.Omega.{arith}
 use Rattle.meaning.specs.Bits.{bitsOf}
 use Rattle.sparse_one_nnd.proofs.Stores.{Written, write-start, written-bytes, written-middles, written-larges, write-on, large-room, near-of, block-of, end-bytes, end-middles, end-larges}
-use borrow.Author.Needs.{needs}
 use Rattle.sparse_one_nnd.proofs.second_pass.put_blocks.Statement.{statement}
 use Rattle.sparse_one_nnd.proofs.second_pass.put_blocks.Tie as tie
-use Rattle.sparse_one_nnd.proofs.second_pass.put_blocks.Reads as reads
-use Rattle.sparse_one_nnd.proofs.second_pass.put_blocks.Lts as lts
-use Rattle.sparse_one_nnd.proofs.second_pass.put_block.Reads as put-block-reads
-use Rattle.sparse_one_nnd.proofs.second_pass.put_large.Reads as put-large-reads
-use Rattle.sparse_one_nnd.proofs.second_pass.put_middle.Reads as put-middle-reads
 
 abbrev Inv-loop : tie.InvT-loop
 Inv-loop ws n bytes₀ middles₀ larges₀ blocks o8 o16 o64 s₀ b₀ bytes middles larges s b = (b ≤ blocks) × Written (bitsOf ws n) (record { bytes = o8; middles = o16; larges = o64 }) bytes₀ middles₀ larges₀ bytes middles larges s b

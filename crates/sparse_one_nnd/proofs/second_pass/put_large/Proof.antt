@@ -1,12 +1,8 @@
 -- `put_large` meets its contract: by its test.
 use Rattle.sparse_one_nnd.proofs.Stores.{large-yes, large-no, large-put, large-not}
-use borrow.Author.Tests.{eq-eqb, ne-eqb}
 use borrow.Author.Needs.{needs}
 use Rattle.sparse_one_nnd.proofs.second_pass.put_large.Statement.{statement}
 use Rattle.sparse_one_nnd.proofs.second_pass.put_large.Tie as tie
-use Rattle.sparse_one_nnd.proofs.second_pass.put_large.Reads as reads
-use Rattle.sparse_one_nnd.proofs.second_pass.put_large.Lts as lts
-use Rattle.sparse_one_nnd.proofs.second_pass.narrow64.Reads as narrow64-reads
 
 add-i : tie.Need-add-i
 add-i c = search needs

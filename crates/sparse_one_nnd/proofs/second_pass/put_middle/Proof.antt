@@ -1,12 +1,8 @@
 -- `put_middle` meets its contract: by its test.
 use Rattle.sparse_one_nnd.proofs.Stores.{middle-put, middle-not}
-use borrow.Author.Tests.{eq-eqb, ne-eqb}
 use borrow.Author.Needs.{needs}
 use Rattle.sparse_one_nnd.proofs.second_pass.put_middle.Statement.{statement}
 use Rattle.sparse_one_nnd.proofs.second_pass.put_middle.Tie as tie
-use Rattle.sparse_one_nnd.proofs.second_pass.put_middle.Reads as reads
-use Rattle.sparse_one_nnd.proofs.second_pass.put_middle.Lts as lts
-use Rattle.sparse_one_nnd.proofs.second_pass.narrow16.Reads as narrow16-reads
 
 add-i : tie.Need-add-i
 add-i c = search needs

@@ -3,9 +3,6 @@ use Rattle.sparse_one_nnd.proofs.Stores.{offset-next, offset-same, offs
 use borrow.Author.Needs.{needs}
 use Rattle.sparse_one_nnd.proofs.second_pass.put_offset.Statement.{statement}
 use Rattle.sparse_one_nnd.proofs.second_pass.put_offset.Tie as tie
-use Rattle.sparse_one_nnd.proofs.second_pass.put_offset.Reads as reads
-use Rattle.sparse_one_nnd.proofs.second_pass.put_offset.Lts as lts
-use Rattle.sparse_one_nnd.proofs.second_pass.narrow8.Reads as narrow8-reads
 
 narrow8-requires : tie.Need-narrow8-requires
 narrow8-requires c κs = search needs

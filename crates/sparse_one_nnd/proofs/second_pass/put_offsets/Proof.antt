@@ -2,15 +2,10 @@
 
 use borrow.Author.Needs.{needs}
 use Prim.Native.Nat.{_-_}
-use native.Mathlib.Omega.{arith}
 use Rattle.meaning.specs.Bits.{bitAt}
 use Rattle.sparse_one_nnd.proofs.Stores.{Offsets, off-start, off-length, off-fits, off-on, off-end}
 use Rattle.sparse_one_nnd.proofs.second_pass.put_offsets.Statement.{statement}
 use Rattle.sparse_one_nnd.proofs.second_pass.put_offsets.Tie as tie
-use Rattle.sparse_one_nnd.proofs.second_pass.put_offsets.Reads as reads
-use Rattle.sparse_one_nnd.proofs.second_pass.put_offsets.Lts as lts
-use Rattle.sparse_one_nnd.proofs.first_pass.next_stretch.Reads as next-stretch-reads
-use Rattle.sparse_one_nnd.proofs.second_pass.put_offset.Reads as put-offset-reads
 
 abbrev Inv-loop : tie.InvT-loop
 Inv-loop ws bytes₀ from k at next₀ i₀ bytes next i = Offsets (bitAt ws) from k at bytes₀ bytes next i

@@ -6,9 +6,6 @@ use Rattle.sparse_one_nnd.proofs.Seeks.{Seeking, seek-start, seek-end, 
 use borrow.Author.Needs.{needs}
 use Rattle.sparse_one_nnd.proofs.select.before16.Statement.{statement}
 use Rattle.sparse_one_nnd.proofs.select.before16.Tie as tie
-use Rattle.sparse_one_nnd.proofs.select.before16.Reads as reads
-use Rattle.sparse_one_nnd.proofs.select.before16.Lts as lts
-use Rattle.sparse_one_nnd.proofs.entries.wide16.Reads as wide16-reads
 
 abbrev Inv-loop : tie.InvT-loop
 Inv-loop es q i₀ i = Seeking q es i

@@ -6,9 +6,6 @@ use Rattle.sparse_one_nnd.proofs.Seeks.{Seeking, seek-start, seek-end, 
 use borrow.Author.Needs.{needs}
 use Rattle.sparse_one_nnd.proofs.select.before64.Statement.{statement}
 use Rattle.sparse_one_nnd.proofs.select.before64.Tie as tie
-use Rattle.sparse_one_nnd.proofs.select.before64.Reads as reads
-use Rattle.sparse_one_nnd.proofs.select.before64.Lts as lts
-use Rattle.sparse_one_nnd.proofs.entries.wide64.Reads as wide64-reads
 
 abbrev Inv-loop : tie.InvT-loop
 Inv-loop es q i₀ i = Seeking q es i

@@ -3,10 +3,6 @@ use Rattle.sparse_one_nnd.proofs.Seeks.{middle-rest, middle-whole}
 use borrow.Author.Needs.{needs}
 use Rattle.sparse_one_nnd.proofs.select.middle_of.Statement.{statement}
 use Rattle.sparse_one_nnd.proofs.select.middle_of.Tie as tie
-use Rattle.sparse_one_nnd.proofs.select.middle_of.Reads as reads
-use Rattle.sparse_one_nnd.proofs.select.middle_of.Lts as lts
-use Rattle.sparse_one_nnd.proofs.entries.one_less.Reads as one-less-reads
-use Rattle.sparse_one_nnd.proofs.select.before16.Reads as before16-reads
 
 mul-from : tie.Need-mul-from
 mul-from c = search needs

@@ -3,10 +3,6 @@ use Rattle.sparse_one_nnd.proofs.Selects.{offset-end, offset-out, offse
 use borrow.Author.Needs.{needs}
 use Rattle.sparse_one_nnd.proofs.select.offset_at.Statement.{statement}
 use Rattle.sparse_one_nnd.proofs.select.offset_at.Tie as tie
-use Rattle.sparse_one_nnd.proofs.select.offset_at.Reads as reads
-use Rattle.sparse_one_nnd.proofs.select.offset_at.Lts as lts
-use Rattle.sparse_one_nnd.proofs.entries.wide8.Reads as wide8-reads
-use Rattle.sparse_one_nnd.proofs.select.place_of.Reads as place-of-reads
 
 returns : tie.Need-returns
 returns c = search (offset-end, needs)

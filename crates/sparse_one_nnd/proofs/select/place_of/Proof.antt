@@ -3,8 +3,6 @@ use Rattle.sparse_one_nnd.proofs.Selects.{place-middle, place-block, pl
 use borrow.Author.Needs.{needs}
 use Rattle.sparse_one_nnd.proofs.select.place_of.Statement.{statement}
 use Rattle.sparse_one_nnd.proofs.select.place_of.Tie as tie
-use Rattle.sparse_one_nnd.proofs.select.place_of.Reads as reads
-use Rattle.sparse_one_nnd.proofs.select.place_of.Lts as lts
 
 returns : tie.Need-returns
 returns c = search (place-middle, needs)

@@ -3,10 +3,6 @@ use Rattle.sparse_one_nnd.proofs.Asked.{pred-broken, pred-is}
 use borrow.Author.Needs.{needs}
 use Rattle.sparse_one_nnd.proofs.select.pred.Statement.{statement}
 use Rattle.sparse_one_nnd.proofs.select.pred.Tie as tie
-use Rattle.sparse_one_nnd.proofs.select.pred.Reads as reads
-use Rattle.sparse_one_nnd.proofs.select.pred.Lts as lts
-use Rattle.sparse_one_nnd.proofs.rank.rank.Reads as rank-reads
-use Rattle.sparse_one_nnd.proofs.select.select.Reads as select-reads
 
 rank-requires : tie.Need-rank-requires
 rank-requires c κs = search needs

@@ -3,12 +3,6 @@ use Rattle.sparse_one_nnd.proofs.Asked.{select-zero, select-empty, sele
 use borrow.Author.Needs.{needs}
 use Rattle.sparse_one_nnd.proofs.select.select.Statement.{statement}
 use Rattle.sparse_one_nnd.proofs.select.select.Tie as tie
-use Rattle.sparse_one_nnd.proofs.select.select.Reads as reads
-use Rattle.sparse_one_nnd.proofs.select.select.Lts as lts
-use Rattle.sparse_one_nnd.proofs.entries.no_entries.Reads as no-entries-reads
-use Rattle.sparse_one_nnd.proofs.entries.one_less.Reads as one-less-reads
-use Rattle.sparse_one_nnd.proofs.select.before64.Reads as before64-reads
-use Rattle.sparse_one_nnd.proofs.select.select_large.Reads as select-large-reads
 
 returns : tie.Need-returns
 returns c = search (select-zero, needs)

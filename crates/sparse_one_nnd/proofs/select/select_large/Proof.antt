@@ -3,11 +3,6 @@ use Rattle.sparse_one_nnd.proofs.Asked.{large-out, large-above, large-n
 use borrow.Author.Needs.{needs}
 use Rattle.sparse_one_nnd.proofs.select.select_large.Statement.{statement}
 use Rattle.sparse_one_nnd.proofs.select.select_large.Tie as tie
-use Rattle.sparse_one_nnd.proofs.select.select_large.Reads as reads
-use Rattle.sparse_one_nnd.proofs.select.select_large.Lts as lts
-use Rattle.sparse_one_nnd.proofs.entries.wide64.Reads as wide64-reads
-use Rattle.sparse_one_nnd.proofs.select.middle_of.Reads as middle-of-reads
-use Rattle.sparse_one_nnd.proofs.select.select_from.Reads as select-from-reads
 
 returns : tie.Need-returns
 returns c = search (large-out, needs)

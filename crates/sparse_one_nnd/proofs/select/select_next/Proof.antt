@@ -3,9 +3,6 @@ use Rattle.sparse_one_nnd.proofs.Asked.{next-over, next-is}
 use borrow.Author.Needs.{needs}
 use Rattle.sparse_one_nnd.proofs.select.select_next.Statement.{statement}
 use Rattle.sparse_one_nnd.proofs.select.select_next.Tie as tie
-use Rattle.sparse_one_nnd.proofs.select.select_next.Reads as reads
-use Rattle.sparse_one_nnd.proofs.select.select_next.Lts as lts
-use Rattle.sparse_one_nnd.proofs.select.select.Reads as select-reads
 
 returns : tie.Need-returns
 returns c = search (next-over, needs)

@@ -3,9 +3,6 @@ use Rattle.sparse_one_nnd.proofs.Selects.{begin-end, begin-below, begin
 use borrow.Author.Needs.{needs}
 use Rattle.sparse_one_nnd.proofs.select.select_start.Statement.{statement}
 use Rattle.sparse_one_nnd.proofs.select.select_start.Tie as tie
-use Rattle.sparse_one_nnd.proofs.select.select_start.Reads as reads
-use Rattle.sparse_one_nnd.proofs.select.select_start.Lts as lts
-use Rattle.sparse_one_nnd.proofs.select.select_walk.Reads as select-walk-reads
 
 returns : tie.Need-returns
 returns c = search (begin-end, needs)

@@ -6,11 +6,6 @@ use Rattle.sparse_one_nnd.proofs.Selects.{Finding, find-start, find-end
 use borrow.Author.Needs.{needs}
 use Rattle.sparse_one_nnd.proofs.select.select_walk.Statement.{statement}
 use Rattle.sparse_one_nnd.proofs.select.select_walk.Tie as tie
-use Rattle.sparse_one_nnd.proofs.select.select_walk.Reads as reads
-use Rattle.sparse_one_nnd.proofs.select.select_walk.Lts as lts
-use Rattle.sparse_one_nnd.proofs.entries.one_less.Reads as one-less-reads
-use Rattle.sparse_one_nnd.proofs.entries.wide8.Reads as wide8-reads
-use Rattle.sparse_one_nnd.proofs.select.offset_at.Reads as offset-at-reads
 
 abbrev Inv-loop : tie.InvT-loop
 Inv-loop bytes m q at j₀ rest₀ i₀ j rest i = Finding (placed (selectWalk 0 (2048 * m) q (drop at bytes))) m bytes j rest i

@@ -3,10 +3,6 @@ use Rattle.sparse_one_nnd.proofs.Asked.{succ-broken, succ-is}
 use borrow.Author.Needs.{needs}
 use Rattle.sparse_one_nnd.proofs.select.succ.Statement.{statement}
 use Rattle.sparse_one_nnd.proofs.select.succ.Tie as tie
-use Rattle.sparse_one_nnd.proofs.select.succ.Reads as reads
-use Rattle.sparse_one_nnd.proofs.select.succ.Lts as lts
-use Rattle.sparse_one_nnd.proofs.rank.rank.Reads as rank-reads
-use Rattle.sparse_one_nnd.proofs.select.succ_by.Reads as succ-by-reads
 
 rank-requires : tie.Need-rank-requires
 rank-requires c κs = search needs

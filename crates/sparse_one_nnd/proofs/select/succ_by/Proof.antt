@@ -3,10 +3,6 @@ use Rattle.sparse_one_nnd.proofs.Asked.{by-broken, by-nothing, by-here,
 use borrow.Author.Needs.{needs}
 use Rattle.sparse_one_nnd.proofs.select.succ_by.Statement.{statement}
 use Rattle.sparse_one_nnd.proofs.select.succ_by.Tie as tie
-use Rattle.sparse_one_nnd.proofs.select.succ_by.Reads as reads
-use Rattle.sparse_one_nnd.proofs.select.succ_by.Lts as lts
-use Rattle.sparse_one_nnd.proofs.select.select.Reads as select-reads
-use Rattle.sparse_one_nnd.proofs.select.select_next.Reads as select-next-reads
 
 select-requires : tie.Need-select-requires
 select-requires c κs = search needs

@@ -5,12 +5,6 @@ use Rattle.sparse_one_nnd.proofs.Writes.{entries-few, room-1, room-2, r
 use borrow.Author.Needs.{needs}
 use Rattle.sparse_one_nnd.proofs.write.write_fits.Statement.{statement}
 use Rattle.sparse_one_nnd.proofs.write.write_fits.Tie as tie
-use Rattle.sparse_one_nnd.proofs.write.write_fits.Reads as reads
-use Rattle.sparse_one_nnd.proofs.write.write_fits.Lts as lts
-use Rattle.sparse_one_nnd.proofs.first_pass.counts_of.Reads as counts-of-reads
-use Rattle.sparse_one_nnd.proofs.second_pass.put_blocks.Reads as put-blocks-reads
-use Rattle.sparse_one_nnd.proofs.write.room.Reads as room-reads
-use Rattle.sparse_one_nnd.proofs.write.room_pairs.Reads as room-pairs-reads
 
 counts-of-requires : tie.Need-counts-of-requires
 counts-of-requires c κs = counts-few (c .before .before .before .before .pre)
