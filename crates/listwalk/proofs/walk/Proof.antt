@@ -1,0 +1,83 @@
+-- `listwalk::walk` meets its contract. Assumes nothing.
+use mathlib.Core.Path.{sym}
+use lib.Seq.{length-take-le}
+use borrow.Author.Needs.{needs}
+use Rattle.listwalk.proofs.walk.Statement.{statement}
+use Rattle.listwalk.proofs.walk.Tie as tie
+
+slice-aggregate-read-list : tie.Need-slice-aggregate-read-list
+slice-aggregate-read-list c = search needs
+
+slice-aggregate-read-list-2 : tie.Need-slice-aggregate-read-list-2
+slice-aggregate-read-list-2 c = search needs
+
+read-list-requires : tie.Need-read-list-requires
+read-list-requires c κs = search needs
+
+enum-known-r : tie.Need-enum-known-r
+enum-known-r c = search needs
+
+returns : tie.Need-returns
+returns c = search needs
+
+array-share-prefix-levels : tie.Need-array-share-prefix-levels
+array-share-prefix-levels c = search needs
+
+slice-aggregate-listed : tie.Need-slice-aggregate-listed
+slice-aggregate-listed c = sym (length-take-le _ _ (search needs))
+
+array-share-prefix-labels : tie.Need-array-share-prefix-labels
+array-share-prefix-labels c = search needs
+
+slice-aggregate-listed-2 : tie.Need-slice-aggregate-listed-2
+slice-aggregate-listed-2 c = sym (length-take-le _ _ (search needs))
+
+listed-requires : tie.Need-listed-requires
+listed-requires c κs = search needs
+
+enum-known-r-2 : tie.Need-enum-known-r-2
+enum-known-r-2 c = search needs
+
+write-refusal-requires : tie.Need-write-refusal-requires
+write-refusal-requires c κs = search needs
+
+enum-told : tie.Need-enum-told
+enum-told c = search needs
+
+same-length : tie.Need-same-length
+same-length c = search needs
+
+returns-2 : tie.Need-returns-2
+returns-2 c = search needs
+
+same-length-2 : tie.Need-same-length-2
+same-length-2 c = search needs
+
+returns-3 : tie.Need-returns-3
+returns-3 c = search needs
+
+returns-4 : tie.Need-returns-4
+returns-4 c = search needs
+
+pub walk-spec : {M : Type 1} → statement M
+walk-spec =
+    tie.close
+    (tie.spec
+    slice-aggregate-read-list
+    slice-aggregate-read-list-2
+    read-list-requires
+    enum-known-r
+    returns
+    array-share-prefix-levels
+    slice-aggregate-listed
+    array-share-prefix-labels
+    slice-aggregate-listed-2
+    listed-requires
+    enum-known-r-2
+    write-refusal-requires
+    enum-told
+    same-length
+    returns-2
+    same-length-2
+    returns-3
+    returns-4)
