@@ -1,6 +1,5 @@
 // What fixnum answers to the questions of a recorded line, field by field, in the record's terms.
 ghost use Prim.Native.Nat.{_≤_};
-use super::entry::Entry;
 use fixnum::Closed;
 use fixnum::Fixnum8;
 use fixnum::Fixnum64;
@@ -9,6 +8,7 @@ use fixnum::Got;
 use fixnum::Rank;
 use fixnum::Set8;
 use fixnum::Set64;
+use recorded::Entry;
 
 pub struct Word {
     pub wide: bool,

@@ -2,49 +2,17 @@
 // original the answer is 01's, and the record is held to what the original does there. The input is testdata/fixnum8.txt, whole, and every
 // fifth line of testdata/fixnum64.txt.
 mod asked;
-mod entry;
 
 use asked::Word;
 use asked::asked;
 use asked::length;
-use entry::Entry;
-use entry::begins;
-use entry::next_entry;
-use entry::same;
-
-// Where the reading stands, how many answers were compared, and how many were different.
-struct Run {
-    at: usize,
-    answers: u64,
-    different: u64,
-}
-
-// An answer or a part of a line's form that is not as it should be.
-fn wrong(r: Run, at: usize) -> Run {
-    Run {
-        at,
-        answers: r.answers,
-        different: std::num::wrapping_add_u64(r.different, 1),
-    }
-}
-
-// One answer, ended by the byte `stop`.
-fn compare(text: &[u8], r: Run, want: Entry, stop: u8) -> Run {
-    let got = next_entry(text, r.at);
-    let next = Run {
-        at: got.next,
-        answers: std::num::wrapping_add_u64(r.answers, 1),
-        different: r.different,
-    };
-    if got.stop != stop {
-        return wrong(next, next.at);
-    }
-    let found = got.entry;
-    if same(found, want) {
-        return next;
-    }
-    wrong(next, next.at)
-}
+use recorded::Entry;
+use recorded::Run;
+use recorded::begins;
+use recorded::compare;
+use recorded::from;
+use recorded::next_entry;
+use recorded::wrong;
 
 // Field f of a line: the answers to one question, at every place or rank.
 fn field(text: &[u8], r: Run, word: Word, f: usize) -> Run {
@@ -74,23 +42,19 @@ fn fields(text: &[u8], r: Run, word: Word) -> Run {
 // The value of a line's word, and then its answers.
 fn value(text: &[u8], r: Run, wide: bool) -> Run {
     let got = next_entry(text, r.at);
-    let next = Run {
-        at: got.next,
-        answers: r.answers,
-        different: r.different,
-    };
+    let next = from(r, got.next);
     if got.stop != b'\t' {
-        return wrong(next, next.at);
+        return wrong(next);
     }
     let e = got.entry;
     let Entry::Number(x) = e else {
-        return wrong(next, next.at);
+        return wrong(next);
     };
     if wide {
         return fields(text, next, Word { wide, x });
     }
     if 255 < x {
-        return wrong(next, next.at);
+        return wrong(next);
     }
     fields(text, next, Word { wide, x })
 }
@@ -99,28 +63,12 @@ fn value(text: &[u8], r: Run, wide: bool) -> Run {
 fn line(text: &[u8], r: Run) -> Run {
     let at = r.at;
     if begins(text, at, b"all8\t") {
-        return value(
-            text,
-            Run {
-                at: std::num::wrapping_add_usize(at, 5),
-                answers: r.answers,
-                different: r.different,
-            },
-            false,
-        );
+        return value(text, from(r, std::num::wrapping_add_usize(at, 5)), false);
     }
     if begins(text, at, b"all64\t") {
-        return value(
-            text,
-            Run {
-                at: std::num::wrapping_add_usize(at, 6),
-                answers: r.answers,
-                different: r.different,
-            },
-            true,
-        );
+        return value(text, from(r, std::num::wrapping_add_usize(at, 6)), true);
     }
-    wrong(r, text.len())
+    wrong(from(r, text.len()))
 }
 
 // All lines. A line is never empty, so the reading gets on.
@@ -134,7 +82,7 @@ fn replay(text: &[u8]) -> Run {
     while at < text.len() {
         run = line(text, run);
         if run.at <= at {
-            return wrong(run, at);
+            return wrong(run);
         }
         at = run.at;
     }
