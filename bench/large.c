@@ -386,6 +386,116 @@ static void refused_growth(const char *name, const uint32_t *levels, size_t n, u
     free(labels);
 }
 
+/* ROOM. */
+
+static size_t *length_of(Tree *t, int area)
+{
+    size_t *const lengths[6] = {&t->words_len, &t->bytes_len, &t->middles_len, &t->larges_len, &t->labels_len, &t->scratch_len};
+    return lengths[area];
+}
+
+/* How long an area must be for the list of a record. */
+static size_t needed(const uint64_t *record, int area)
+{
+    const uint64_t *bits = record + 1, *entries = record + 6 + 4 * (area - 1);
+    size_t sum = 0;
+    if (area == 0)
+        for (int k = 0; k < 5; k++)
+            sum += (bits[k] + 63) / 64;
+    else if (area < 4)
+        for (int k = 0; k < 4; k++)
+            sum += (area == 1 ? 1 : 2) * entries[k];
+    else
+        sum = area == 4 ? record[0] : 2 * record[0] + 2;
+    return sum;
+}
+
+/* A build with an area of one element too few: ROOM, zeros, and nothing written behind what is lent. */
+static void short_build(Case *c, int area, size_t exact)
+{
+    size_t *lent = length_of(&c->tree, area);
+    tree_soil(&c->tree);
+    uint64_t behind = element(&c->tree, area, exact - 1);
+    *lent = exact - 1;
+    told(c, "build without room", (uint64_t)area, tree_build(&c->tree, c->levels, c->labels, c->n), OSCJARDUM_ROOM, 0, (uint64_t)area, 0, 0);
+    all_zero(c);
+    SAME(c, "behind what is lent", (uint64_t)area, element(&c->tree, area, exact - 1), behind);
+    *lent = exact;
+}
+
+/* Areas exactly as long as needed are accepted, and none may be shorter. */
+static void check_rooms(Case *c)
+{
+    size_t exact[6];
+    SAME(c, "build", 0, tree_build(&c->tree, c->levels, c->labels, c->n), 0);
+    for (int area = 0; area < 6; area++) {
+        exact[area] = needed(c->tree.record, area);
+        SAME(c, "the header's size is enough", (uint64_t)area, exact[area] <= length(&c->tree, area), 1);
+    }
+    for (int area = 0; area < 6; area++)
+        *length_of(&c->tree, area) = exact[area];
+    told(c, "build, nothing spare", 0, tree_build(&c->tree, c->levels, c->labels, c->n), 0, 1, c->n, 0, 0);
+    for (int area = 0; area < 6; area++)
+        short_build(c, area, exact[area]);
+}
+
+/* A node that makes an area's need grow, at most `most` nodes before the end; 0 if there is none. */
+static size_t growing(Case *c, int area, size_t most)
+{
+    size_t last = needed(c->tree.record, area);
+    for (size_t n = c->n - 1; n > 0 && n + most > c->n; n--) {
+        SAME(c, "build", n, tree_build(&c->tree, c->levels, c->labels, n), 0);
+        size_t own = needed(c->tree.record, area);
+        if (own < last)
+            return n;
+        last = own;
+    }
+    return 0;
+}
+
+/* Growth by that node with one element too few: ROOM, and all as it stood. Answers 1 if there was such a node. */
+static uint64_t short_growth(const char *name, const uint32_t *levels, size_t n, int area)
+{
+    Case c = {.name = name, .n = n, .levels = levels, .labels = list_labels(n), .tree = tree_lend(n)};
+    Tree stood = tree_lend(n);
+    SAME(&c, "build", n, tree_build(&c.tree, levels, c.labels, n), 0);
+    size_t from = growing(&c, area, 3000);
+    if (from != 0) {
+        SAME(&c, "build", from, tree_build(&c.tree, levels, c.labels, from + 1), 0);
+        size_t lent = needed(c.tree.record, area) - 1;
+        *length_of(&c.tree, area) = *length_of(&stood, area) = lent;
+        SAME(&c, "build", from, tree_build(&c.tree, levels, c.labels, from), 0);
+        SAME(&c, "build", from, tree_build(&stood, levels, c.labels, from), 0);
+        told(&c, "growth without room", from, tree_grow(&c.tree, levels[from], 7), OSCJARDUM_ROOM, 0, (uint64_t)area, 0, 0);
+        same_areas(&c, &stood);
+        zeros_from(&c, 4, from);
+        zeros_from(&c, 5, 0);
+    }
+    tree_return(&c.tree);
+    tree_return(&stood);
+    free((void *)c.labels);
+    return from != 0;
+}
+
+static void run_rooms(size_t n)
+{
+    double since = seconds();
+    printf("ROOM\n");
+    for (Shape s = 0; s < SHAPES; s++) {
+        uint64_t grown = 0;
+        uint32_t *levels = list_levels(s, n);
+        Case c = {.name = shape_names[s], .n = n, .levels = levels, .labels = list_labels(n), .tree = tree_lend(n)};
+        check_rooms(&c);
+        for (int area = 0; area < 6; area++)
+            grown += short_growth(shape_names[s], levels, n, area);
+        SAME(&c, "areas that growth lacked", 0, grown >= 4, 1);
+        tree_return(&c.tree);
+        free((void *)c.labels);
+        free(levels);
+        done(shape_names[s], 6 + grown, &since);
+    }
+}
+
 static void run_many(void)
 {
     double since = seconds();
@@ -485,6 +595,7 @@ static int run_all(const char *recorded, int quick)
     if (run_recorded(recorded, some) != 0)
         return 1;
     run_growth(quick);
+    run_rooms(33000);
     run_fulls(quick);
     if (quick)
         return 0;
