@@ -1,8 +1,10 @@
 -- The record of counts: "one record of counts for up to five strings".
 use mathlib.Core.Path.{_≡_}
+use mathlib.Core.Option.{Option, none, some}
 use mathlib.Core.List.{List, [], _∷_}
 use Prim.Native.Nat.{ℕ}
 use lib.ListN.{length, getD, replicate}
+use Rattle.meaning.specs.Answers.{Refusal, Answer, is, refused}
 use Rattle.meaning.specs.Areas as areas
 use Rattle.meaning.specs.Build.{Tree}
 use Rattle.record.specs.declared.Counts.{Counts}
@@ -30,3 +32,13 @@ pub record Sized (c : Counts) : Type 0 where
 -- counts of nothing
 abbrev pub noCounts : Counts
 noCounts = record { nodes = 0; bits = replicate 5 0; bytes = replicate 4 0; middles = replicate 4 0; larges = replicate 4 0 }
+
+-- the tree, or the refusal
+abbrev pub replyOf : Option Refusal → Counts → Answer Tree
+replyOf none c = is (treeIn c)
+replyOf (some r) c = refused r
+
+-- with a refusal come counts of nothing
+pub record Counted (o : Option Refusal) (c : Counts) : Type 0 where
+  pub sized : Sized c
+  pub nothing : (r : Refusal) → o ≡ some r → c ≡ noCounts
