@@ -55,7 +55,7 @@ module _ (r : Raised) where
   answer-broken e b q = refuses verdict.Broken _ refl (ap plans.said e) b q
 
 -- a verdict is made exactly if it has no refusal
-made-none : (v : Verdict) → isMade v ≡ true → refusalOf v ≡ none
+pub made-none : (v : Verdict) → isMade v ≡ true → refusalOf v ≡ none
 made-none verdict.Made e = refl
 made-none verdict.Lengths e = absurd (clash e refl)
 made-none (verdict.Many n) e = absurd (clash e refl)
@@ -65,7 +65,7 @@ made-none (verdict.Full v b) e = absurd (clash e refl)
 made-none verdict.Deep e = absurd (clash e refl)
 made-none verdict.Broken e = absurd (clash e refl)
 
-none-made : (v : Verdict) → isMade v ≡ false → (x : Refusal) × (refusalOf v ≡ some x)
+pub none-made : (v : Verdict) → isMade v ≡ false → (x : Refusal) × (refusalOf v ≡ some x)
 none-made verdict.Made e = absurd (clash refl e)
 none-made verdict.Lengths e = (_, refl)
 none-made (verdict.Many n) e = (_, refl)
