@@ -52,5 +52,14 @@ def entries(answer):
     return answer.split(' ') if answer else []
 
 
-def lists(levels, labels):
+def trimmed(row):
+    """Without the zeros at its end."""
+    row = list(map(str, row))
+    while row and row[-1] == '0':
+        row.pop()
+    return row
+
+
+def given(levels, labels):
+    """The two lists that a build takes."""
     return [line('levels', levels), line('labels', labels)]

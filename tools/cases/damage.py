@@ -39,16 +39,19 @@ def changed(chance, old, top):
 def damage_area(chance, standing):
     area = chance.choice([0, 0, 1, 1, 2, 3, 4])
     numbers = standing.areas[area]
-    if numbers:
-        at = chance.randrange(len(numbers))
+    if not numbers:
+        return
+    at = chance.randrange(len(numbers))
+    if at and chance.random() < 0.2:
+        numbers[at - 1], numbers[at] = numbers[at], numbers[at - 1]
+    else:
         numbers[at] = changed(chance, numbers[at], TOPS[area])
 
 
 def damage_record(chance, standing):
     at = chance.choice([0, 1, 1, 2, 3, 6, 7, 10, 11, 14, 15, chance.randrange(18)])
-    old = standing.record[at]
-    standing.record[at] = chance.choice([old + 1, max(0, old - 1), max(0, old - 2), old + 2, 0, old + chance.randint(0, 70),
-                                         max(0, old - chance.randint(0, 70)), chance.choice(NEAR_LAST)])
+    old, some = standing.record[at], chance.choice([1, 1, 2, 2, chance.randint(0, 70)])
+    standing.record[at] = chance.choice([min(LAST, old + some), max(0, old - some), max(0, old - some), 0, chance.choice(NEAR_LAST)])
 
 
 def damage(chance, standing):

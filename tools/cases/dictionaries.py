@@ -2,7 +2,7 @@
 
 from model.dictionary import encoded, full_block
 
-from .case import LAST, NEAR_LAST, PANIC, Case, areas, entries, line, puts, text
+from .case import LAST, NEAR_LAST, PANIC, Case, areas, entries, line, puts, text, trimmed
 
 QUESTIONS = ('rank_one', 'select_one', 'pred_one', 'succ_one')
 SHOWN = ('show record', 'show 1', 'show 2', 'show 3', 'dict byte_size')
@@ -54,12 +54,6 @@ def told(places, at, answers, fields, build):
         ours, theirs = entries(ours), entries(theirs)
         strays = [not places and i > 0 if name == 'select_one' else i >= end for i in at]
         yield name, *(text(PANIC if out else answer for out, answer in zip(strays, side)) for side in (ours, theirs))
-
-
-def trimmed(row):
-    while row and row[-1] == '0':
-        row = row[:-1]
-    return row
 
 
 def arguments(chance, places, length):
@@ -131,15 +125,23 @@ def values(chance, top):
     return chance.choice([0, 0, 1, 2, chance.randint(0, 9), chance.randint(0, top), top, top - chance.randint(0, 300) % (top + 1)])
 
 
+def entry_numbers(chance, entries, top):
+    """Positions and ranks, mostly small."""
+    return [values(chance, top) if chance.random() < 0.3 else chance.randint(0, 6) for _ in range(2 * entries)]
+
+
 def any_content(chance):
-    """Bytes and entries by chance, mostly small, some near 2^64."""
+    """Bytes and entries by chance, some near the greatest there are."""
     data = [chance.choice([0, 1, 1, 2, 3, values(chance, 255)]) for _ in range(chance.randint(0, 24))]
-    middles = [values(chance, 65_535) if chance.random() < 0.3 else chance.randint(0, 6) for _ in range(2 * chance.choice([0, 1, 1, 2, 5, 33, 40]))]
-    larges = [values(chance, LAST) if chance.random() < 0.3 else chance.randint(0, 6) for _ in range(2 * chance.choice([0, 1, 1, 2, 3]))]
+    middles = entry_numbers(chance, chance.choice([0, 1, 1, 2, 5, 33, 40]), 65_535)
+    larges = entry_numbers(chance, chance.choice([0, 1, 1, 2, 3]), LAST)
+    if larges and chance.random() < 0.2:
+        larges[-1] = LAST - chance.randint(0, 3)
     return content(chance, data, middles, larges)
 
 
 def content(chance, data, middles, larges):
+    """Areas 1 to 3 just as long as this content, and counts that are theirs or nearly so."""
     counts = [len(data), len(middles) // 2, len(larges) // 2]
     sizes = [len(data), len(middles), len(larges)]
     if chance.random() < 0.1:

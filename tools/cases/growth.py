@@ -4,8 +4,7 @@ from model.refusals import Refused
 from model.tree import parts_of, string_of
 
 from . import lists
-from .case import NEAR_LAST, Case, areas, line
-from .case import lists as given
+from .case import NEAR_LAST, Case, areas, given, line
 from .trees import ASKED, SHOWN, accepted, label, labels_for, needs, odd, oracle_line, told
 
 NODES = (1, 2, 7, 31, 32, 33, 63, 64, 65, 95, 96, 127, 128, 129, 255, 256)
@@ -16,14 +15,15 @@ def split(nodes):
     return [level for level, _ in nodes], [label for _, label in nodes]
 
 
-def largest(*sizes):
+def largest(sizes):
+    """Of each area the largest size."""
     return [max(each) for each in zip(*sizes)]
 
 
-def grown(nodes, first, dirt=0, sizes=None, each_step=True, more=()):
+def grown(nodes, first, dirt=0, each_step=True, more=()):
     """An accepted list: the first nodes built, the others grown one by one; then the whole list built afresh."""
     levels, labels = split(nodes)
-    sizes = sizes or largest(needs(levels), needs(levels[:first]))
+    sizes = largest(needs(levels[:n]) for n in range(first, len(levels) + 1))
     lines = [areas(sizes)] + given(levels[:first], labels[:first]) + ['build']
     if dirt:
         # growth works from the bit string alone
@@ -129,7 +129,7 @@ def short(chance):
     levels = lists.any_list(chance, chance.choice(NODES) + chance.randint(-1, 1))
     level = chance.randint(0, levels[-1] + 2 if levels else 1)
     now, then = needs(levels), needs(levels + [level])
-    sizes = largest(now, then)
+    sizes = largest([now, then])
     for area in chance.sample(range(6), chance.choice([0, 1, 1, 2])):
         sizes[area] = max(now[area], sizes[area] - chance.choice([1, 1, 2]))
     sizes = [size + chance.choice([0, 0, 0, 2]) for size in sizes]
@@ -143,7 +143,7 @@ def every_short(chance):
             level = levels[-1] if levels else 0
             now, then = needs(levels), needs(levels + [level])
             for area in range(6):
-                sizes = largest(now, then)
+                sizes = largest([now, then])
                 if then[area] > now[area]:
                     sizes[area] = then[area] - 1
                     yield refused(chance, levels, [(level, 77)], sizes, ask=n < 300)
@@ -153,7 +153,7 @@ def record_of(chance):
     """Growth under a record that is not the string's: only the nodes and the first bits are looked at."""
     levels = lists.any_list(chance, chance.randint(0, 70))
     level = chance.randint(0, levels[-1] + 1 if levels else 0)
-    sizes = largest(needs(levels), needs(levels + [level]))
+    sizes = largest([needs(levels), needs(levels + [level])])
     n = len(levels)
     record = [n, 2 * n + 2] + [chance.choice([0, 1, 7, *NEAR_LAST]) for _ in range(16)]
     how = chance.random()

@@ -1,6 +1,6 @@
 """Bit strings: pushes, sets, resizes, every question; the plain scan; lengths past the words."""
 
-from .case import KINDS, LAST, NEAR_LAST, Case, areas, entries, line, puts, text
+from .case import KINDS, LAST, NEAR_LAST, Case, areas, entries, line, puts, text, trimmed
 
 EDGES = (0, 1, 2, 63, 64, 65, 127, 128, 129, 191, 192, 193, 255, 256, 257)
 SHOWN = ('string ones', 'string byte_size', 'show record', 'show 0')
@@ -48,20 +48,19 @@ def told(at, answers, fields):
     """The Rust's answers, but for the zero questions at or past the length, where it strays."""
     length, words, size = int(fields[1]), fields[2], fields[3]
     yield 'get', answers[0], fields[4]
-    for name, ours, theirs in zip(KINDS, answers[1:9], fields[5:13]):
-        inside = [k for k, i in enumerate(at) if i < length or not name.endswith('zero') or name.startswith('select')]
-        ours, theirs = entries(ours), entries(theirs)
-        yield name, text(ours[k] for k in inside), text(theirs[k] for k in inside)
+    yield from inside(at, length, answers[1:9], fields[5:13])
     yield 'ones', answers[9], fields[13]
     yield 'byte size', answers[10], size
     yield 'length', answers[11].split()[1], str(length)
-    yield 'words', text(without_zeros(entries(answers[12])[1:])), text(without_zeros(entries(words)))
+    yield 'words', text(trimmed(entries(answers[12])[1:])), text(trimmed(entries(words)))
 
 
-def without_zeros(row):
-    while row and row[-1] == '0':
-        row = row[:-1]
-    return row
+def inside(at, length, answers, fields):
+    """The eight questions; of rank, pred and succ of zeros only those before the length."""
+    for name, ours, theirs in zip(KINDS, answers, fields):
+        keep = [k for k, i in enumerate(at) if i < length or name == 'select_zero' or name.endswith('one')]
+        ours, theirs = entries(ours), entries(theirs)
+        yield name, text(ours[k] for k in keep), text(theirs[k] for k in keep)
 
 
 def sound(bits, edits):
@@ -125,13 +124,8 @@ def scanned(chance):
     at = [i for i in places(chance, len(bits)) if i != LAST]
     lines = [areas([words_of(len(bits)), 0, 0, 0, 0, 0]), line('string push', bits)] + scans(at)
 
-    def told(answers, fields, build):
-        for name, ours, theirs in zip(KINDS, answers[2:], fields):
-            keep = [k for k, i in enumerate(at) if i < len(bits) or not name.endswith('zero') or name.startswith('select')]
-            ours, theirs = entries(ours), entries(theirs)
-            yield name, text(ours[k] for k in keep), text(theirs[k] for k in keep)
-
-    return Case('plain scan', lines, f"scan\t{''.join(map(str, bits))}\t{text(at)}", told)
+    return Case('plain scan', lines, f"scan\t{''.join(map(str, bits))}\t{text(at)}",
+                lambda answers, fields, build: inside(at, len(bits), answers[2:], fields))
 
 
 # Where the Rust strays or has nothing

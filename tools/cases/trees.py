@@ -1,12 +1,13 @@
 """Builds: every question to accepted lists, beside the Rust; and each refusal of the build."""
 
+from itertools import accumulate
+
 from model.refusals import Refused
 from model.string import packed
 from model.tree import check_list, parts_of, string_of
 
 from . import lists
-from .case import NEAR_LAST, PANIC, Case, areas, entries, line, text
-from .case import lists as given
+from .case import LAST, NEAR_LAST, PANIC, Case, areas, entries, given, line, text, trimmed
 
 MOST_NODES = 16_383  # that the program has room for
 ASKED = ('closes', 'children', 'siblings', 'names', 'leaves', 'walk', 'byte_size', 'nodes', 'is_empty')
@@ -66,31 +67,36 @@ def built(nodes, sizes=None, dirt=0, more=()):
 
 
 def told(outcome, answers, fields, build):
-    """All that the Rust answers, and the areas that its strings and dictionaries make; leaf counts from its children and closes."""
-    if outcome.startswith('refused:5:') and build == 'debug':
-        yield 'the build panics', PANIC, fields[0]
+    """All that the Rust answers, and the areas that its strings and dictionaries make."""
     if outcome.startswith('refused'):
-        return
+        # on a list that 01 calls FULL the debug build panics, and what the release build answers is worth nothing
+        yield from [('build', PANIC, fields[0])] if outcome.startswith('refused:5:') and build == 'debug' else []
+    elif fields[0] == PANIC:
+        yield 'build', outcome, PANIC
+    else:
+        yield from told_areas(answers, fields)
+        yield from told_answers(answers[len(SHOWN):], fields)
+
+
+def told_areas(answers, fields):
     strings, dictionaries = levels_of(fields)
-    closes, children = entries(fields[3]), entries(fields[4])
-    record = [len(closes) - 1] + counts(map(len, strings), 5)
+    record = [fields[0].count('1') - 1] + counts(map(len, strings), 5)
     parts = [[word for string in strings for word in packed(list(map(int, string)))]]
     for kind in range(3):
         record += counts([len(entries(made[kind])) for made in dictionaries], 4)
-        parts.append([int(number) for made in dictionaries for number in entries(made[kind].replace(':', ' '))])
+        parts.append([number for made in dictionaries for number in entries(made[kind].replace(':', ' '))])
     yield 'record', answers[0], text(record)
     for area, part in enumerate(parts):
         yield f'area {area}', answers[1 + area], text([entries(answers[1 + area])[0]] + trimmed(part))
-    yield 'closes', answers[7], fields[3]
-    yield 'children', answers[8], fields[4]
-    yield 'siblings', answers[9], fields[5]
-    yield 'labels', answers[10], ('- ' + fields[7]).strip()
-    yield 'leaves', answers[11], leaves(fields[0], closes, children)
+
+
+def told_answers(answers, fields):
+    """The leaf counts are made of the Rust's children and closes."""
+    nodes = fields[0].count('1') - 1
     walked = zip(entries(fields[6]), entries(fields[7]))
-    yield 'walk', answers[12], ' '.join(f'{level}:{label}' for level, label in walked)
-    yield 'byte size', answers[13], fields[1]
-    yield 'nodes', answers[14], str(len(closes) - 1)
-    yield 'is_empty', answers[15], str(int(len(closes) == 1))
+    wanted = [fields[3], fields[4], fields[5], ('- ' + fields[7]).strip(), leaves(fields), ' '.join(map(':'.join, walked)), fields[1],
+              str(nodes), str(int(nodes == 0))]
+    yield from zip(ASKED, answers, wanted)
 
 
 def levels_of(fields):
@@ -104,19 +110,11 @@ def counts(found, size):
     return (list(found) + [0] * size)[:size]
 
 
-def trimmed(row):
-    while row and row[-1] == 0:
-        row = row[:-1]
-    return row
-
-
-def leaves(string, closes, children):
+def leaves(fields):
     """For each node the nodes after it, up to its close, that have no child."""
-    opens = [place for place, bit in enumerate(string) if bit == '1']
-    before = [0]
-    for child in children:
-        before.append(before[-1] + (child == '-'))
-    below = [(int(close) - place) // 2 for place, close in zip(opens, closes)]
+    opens = [place for place, bit in enumerate(fields[0]) if bit == '1']
+    before = [0, *accumulate(int(child == '-') for child in entries(fields[4]))]
+    below = [(int(close) - place) // 2 for place, close in zip(opens, entries(fields[3]))]
     return text(before[node + 1 + size] - before[node + 1] for node, size in enumerate(below))
 
 
@@ -129,7 +127,7 @@ def odd(chance, levels):
     two = []
     for place in found:
         opens = sum(bits[:place]) if place <= len(bits) else chance.choice(found)
-        two += [place, chance.choice([opens, opens, opens + 1, max(0, opens - 1), chance.choice(NEAR_LAST)])]
+        two += [place, chance.choice([opens, opens, min(LAST, opens + 1), max(0, opens - 1), chance.choice(NEAR_LAST)])]
     n = len(levels)
     lent = [chance.choice([n, n + 1, max(0, n - 1)]) for _ in range(2)]
     return [line('close', found), line('bit', found)] + [
