@@ -9,6 +9,7 @@ from .trees import ASKED, SHOWN, accepted, label, labels_for, needs, odd, oracle
 
 NODES = (1, 2, 7, 31, 32, 33, 63, 64, 65, 95, 96, 127, 128, 129, 255, 256)
 MANY_NODES = (1_022, 1_023, 1_024, 1_025)
+LARGE_NODES = (32_767, 32_768, 32_769)  # about 65,536 places
 
 
 def split(nodes):
@@ -60,12 +61,13 @@ def exhaustive(chance):
 
 
 def edges(chance):
-    """Across 64 bits, and 256 and 2,048 places, in each shape; lists with two and three pioneer levels."""
+    """Across 64 bits, and 256, 2,048 and 65,536 places; lists with two and three pioneer levels."""
     for n in NODES:
         for shape in (lists.wide, lists.deep, lists.comb, lists.rake):
             yield steps(chance, shape(n + 2), 3)
     for n in MANY_NODES:
         yield steps(chance, lists.any_list(chance, n), 3)
+    yield steps(chance, lists.any_list(chance, chance.choice(LARGE_NODES)), 2)
     for pioneers in (2, 2, 3):
         yield steps(chance, lists.many_flags(chance, pioneers), 3)
     # 01's FULL list: its block fills at this node
@@ -99,8 +101,10 @@ def random(chance):
         n = chance.choice(NODES) + chance.randint(0, 6)
     elif how < 0.95:
         n = int(2 ** chance.uniform(0, 8))
-    else:
+    elif how < 0.997:
         n = chance.choice(MANY_NODES) + chance.randint(0, 3)
+    else:
+        n = chance.choice(LARGE_NODES)
     levels = lists.any_list(chance, max(1, n))
     return steps(chance, levels, chance.randint(1, 12) if n < 300 else 3)
 

@@ -9,11 +9,12 @@ from model.tree import check_list, parts_of, string_of
 from . import lists
 from .case import LAST, NEAR_LAST, PANIC, Case, areas, entries, given, line, text, trimmed
 
-MOST_NODES = 16_383  # that the program has room for
+MOST_NODES = 32_830  # that the program has room for
 ASKED = ('closes', 'children', 'siblings', 'names', 'leaves', 'walk', 'byte_size', 'nodes', 'is_empty')
 SHOWN = ('show record', 'show 0', 'show 1', 'show 2', 'show 3', 'show 4', 'show 5')
 NODES = (0, 1, 30, 31, 32, 33, 62, 63, 64, 65, 94, 95, 96, 126, 127, 128, 129, 255, 256)
 MANY_NODES = (1_022, 1_023, 1_024, 1_025)
+LARGE_NODES = (32_766, 32_767, 32_768)  # about 65,536 places
 
 
 def needs(levels):
@@ -32,7 +33,8 @@ def label(chance):
 
 
 def labels_for(chance, levels):
-    return [label(chance) for _ in levels]
+    """In a long list small ones, so that they fit a line."""
+    return [label(chance) if len(levels) < 16_000 else chance.randint(0, 999) for _ in levels]
 
 
 def filled(sizes, number):
@@ -158,6 +160,7 @@ def edges(chance):
             yield case_of(chance, shape(chance, n))
     for n in MANY_NODES:
         yield case_of(chance, lists.any_list(chance, n))
+    yield case_of(chance, lists.any_list(chance, chance.choice(LARGE_NODES)))
     for top in (0, 1, 30, 31, 32, 100, 253, 254):
         yield case_of(chance, lists.pyramid(top))
     for pioneers in (2, 2, 3):
@@ -179,7 +182,9 @@ def random_size(chance):
         return max(0, chance.choice(NODES) + chance.choice([-1, 0, 0, 1]))
     if how < 0.9:
         return int(2 ** chance.uniform(0, 9))
-    return max(1, chance.choice(MANY_NODES) + chance.randint(-2, 2)) if how < 0.97 else int(2 ** chance.uniform(9, 13))
+    if how < 0.97:
+        return chance.choice(MANY_NODES) + chance.randint(-2, 2)
+    return int(2 ** chance.uniform(9, 13)) if how < 0.9985 else chance.choice(LARGE_NODES) + chance.randint(-2, 2)
 
 
 def random_levels(chance):

@@ -44,9 +44,6 @@ class Dictionary:
     def empty(self):
         return not (self.data or self.middles or self.larges)
 
-    def byte_size(self):
-        return len(self.data) + 4 * len(self.middles) + 16 * len(self.larges)
-
     def byte(self, at):
         """A byte of the level's own part; a read outside is BROKEN."""
         if at >= len(self.data):
@@ -115,6 +112,11 @@ class Dictionary:
         if self.select(rank) == i:
             return i
         return self.select(within_64_bits(rank + 1))
+
+
+def byte_size(data, middles, larges):
+    """1, 4 and 16 for each entry of the three kinds. It takes the counts alone, so nothing has to fit."""
+    return within_64_bits(data + 4 * middles + 16 * larges)
 
 
 def before_first_above(entries, rank):

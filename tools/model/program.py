@@ -10,7 +10,7 @@ from .tree import Record
 from .word import Word
 
 MOST_PLACES = 66_000  # that `closes` and its like go through
-MOST_LISTED = 16_384  # elements of the lists
+MOST_LISTED = 32_831  # elements of the lists
 
 
 # Text
@@ -165,8 +165,10 @@ class Program:
         return each(self.tree().leaf_count, pairs(words))
 
     def opened(self):
-        """Place and id at each open."""
+        """Place and id at each open; none of a string without bits, whatever the other counts."""
         standing = self.tree()
+        if self.record.bits[0] == 0:
+            return []
         standing.check_counts()
         bits = standing.levels[0].bits[:MOST_PLACES]
         return [(place, standing.opens[place]) for place, bit in enumerate(bits) if bit]
@@ -210,11 +212,10 @@ class Program:
     def do_dict(self, words):
         if words[0] == 'build':
             return self.build_dictionary()
-        made = outcome(self.dictionary)
-        refused = isinstance(made, Refused)
         if words[0] == 'byte_size':
-            return shown(made if refused else made.byte_size())
-        question = words[0].removesuffix('_one')
+            return one(dictionary.byte_size, self.record.bytes[0], self.record.middles[0], self.record.larges[0])
+        made = outcome(self.dictionary)
+        refused, question = isinstance(made, Refused), words[0].removesuffix('_one')
         return each(lambda a: made if refused else getattr(made, question)(a), singles(words[1:]))
 
     def build_dictionary(self):

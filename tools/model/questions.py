@@ -179,9 +179,10 @@ class Tree:
                 if edge is None and not way:
                     return
             told += 1
-            if told > self.record.nodes or len(way) == 0 or len(way) - 1 > 2 ** 32 - 1:
+            level = max(0, len(way) - 1)  # also of a sibling of the root, which only damaged areas have
+            if told > self.record.nodes or level > 2 ** 32 - 1:
                 raise broken()
-            yield len(way) - 1, edge[2]
+            yield level, edge[2]
             way.append(edge[:2])
 
 
