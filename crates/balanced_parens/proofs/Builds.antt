@@ -1,26 +1,25 @@
 -- The ways out of `build`.
-use mathlib.Core.Path.{_≡_, refl, sym, ap, ap₂, _∙_}
-use mathlib.Core.Bool.{Bool, true, false}
+use mathlib.Core.Path.{_≡_, refl, sym, ap, _∙_}
+use mathlib.Core.Bool.{true, false}
 use mathlib.Core.Logic.{_⊎_, inl, inr}
 use mathlib.Core.Option.{Option, none, some}
 use mathlib.Core.List.{List, [], _∷_, _++_}
 use Prim.Native.Nat.{ℕ, _≤_}
 use native.Mathlib.Omega.{arith}
-use lib.Dec.{eqb}
 use lib.ListN.{length, replicate, length-replicate}
 use lib.Seq.{paste}
 use borrow.Author.Tests.{eq-eqb, ne-eqb}
-use Rattle.meaning.specs.Answers.{Refusal, Answer, is, refused}
+use Rattle.meaning.specs.Answers.{Refusal, is, refused}
 use Rattle.meaning.specs.String.{string}
 use Rattle.meaning.specs.Family.{tower}
-use Rattle.meaning.specs.Areas.{Rooms, Held, written, counted, filled}
-use Rattle.meaning.specs.Refusals.{check, checks, firstOf, refusal, Accepted}
-use Rattle.meaning.specs.Build.{Lent, After, Tree, roomsOf, treeOf, lentOf, zeroed, build}
+use Rattle.meaning.specs.Areas.{Rooms, written}
+use Rattle.meaning.specs.Refusals.{check, checks, firstOf, refusal}
+use Rattle.meaning.specs.Build.{Lent, roomsOf, treeOf, lentOf, zeroed, build}
 use Rattle.meaning.proofs.If.{if-none, if-some}
 use Rattle.meaning.proofs.Accepted.{accepted-exactly}
 use Rattle.pioneers.specs.Placed.{listChecks}
 use Rattle.parentheses.specs.Writes.{heldAt}
-use Rattle.parentheses.specs.Raises.{Raising, raising, roomsAt, stringChecks}
+use Rattle.parentheses.specs.Raises.{Raising, raising, stringChecks}
 use Rattle.balanced_parens.specs.Said.{isMade, said, refusedOf}
 use Rattle.balanced_parens.specs.Areas.{lentAt, after, stagedIn, Blank, Cleared}
 use Rattle.balanced_parens.specs.Contract.{Builds, Staged}

@@ -1,8 +1,8 @@
 -- THE END: the demands about the outcomes of the code, from the contracts of build and growth alone.
 use mathlib.Core.Path.{_≡_, refl, sym, ap, ap₂, _∙_, subst}
-use mathlib.Core.Bool.{Bool, true, false}
+use mathlib.Core.Bool.{false}
 use mathlib.Core.Logic.{_⊎_, inl, inr}
-use mathlib.Core.Option.{Option, none, some}
+use mathlib.Core.Option.{none, some}
 use mathlib.Core.List.{List, [], _∷_, _++_, append-assoc, append-nil}
 use Prim.Native.Nat.{ℕ, suc, _≤_}
 use native.Mathlib.Omega.{arith}
@@ -11,13 +11,12 @@ use Rattle.meaning.specs.Answers.{Refusal, refused}
 use Rattle.meaning.specs.Areas.{Rooms}
 use Rattle.meaning.specs.Refusals.{refusal, Accepted}
 use Rattle.meaning.specs.Build.{Lent, After, roomsOf, treeOf, lentOf, zeroed, build}
-use Rattle.meaning.specs.Growth.{growRefusal, grow}
+use Rattle.meaning.specs.Growth.{grow}
 use Rattle.meaning.specs.Demands.{growOn}
 use Rattle.meaning.proofs.Accepted.{accepted-exactly}
 use Rattle.meaning.proofs.Lent.{rooms-of}
 use Rattle.meaning.proofs.Growth as growth
 use Rattle.meaning.proofs.Demands.{answered, grows}
-use Rattle.record.specs.Record.{treeIn}
 use Rattle.balanced_parens.specs.Said.{refusalOf, isMade, said}
 use Rattle.balanced_parens.specs.Areas.{after}
 use Rattle.balanced_parens.specs.Contract.{Builds, GrowsTo}
@@ -26,7 +25,7 @@ use Rattle.balanced_parens.specs.declared.answer.Built.{Built}
 use Rattle.balanced_parens.specs.declared.answer.Verdict.the-variants as verdict
 use Rattle.balanced_parens.proofs.Builds.{which}
 use Rattle.balanced_parens.proofs.Agree.{builds-agree, answers-agree}
-use Rattle.balanced_parens.proofs.Outcome.{outcomeOf, Says, says, either-way, says-tree, no-refusal, if-made, if-not}
+use Rattle.balanced_parens.proofs.Outcome.{outcomeOf, Says, says, either-way, says-tree, no-refusal, if-not}
 
 -- ---- build
 

@@ -1,11 +1,10 @@
 -- The ways out of `raise_longer` and of `grow`.
-use mathlib.Core.Path.{_≡_, refl, sym, ap, ap₂, _∙_}
-use mathlib.Core.Bool.{Bool, true, false}
+use mathlib.Core.Path.{_≡_, refl, sym, ap, _∙_}
+use mathlib.Core.Bool.{true, false}
 use mathlib.Core.Logic.{_⊎_, inl, inr}
 use mathlib.Core.Option.{Option, none, some}
 use mathlib.Core.List.{List, [], _∷_, _++_}
-use Prim.Native.Nat.{ℕ, suc, _+_, _*_, _≤_, _<_}
-use native.Mathlib.Numerals.{add-one}
+use Prim.Native.Nat.{ℕ, suc, _+_, _≤_, _<_}
 use native.Mathlib.Omega.{arith}
 use lib.ListN.{length, getD, set, replicate, length-append}
 use borrow.Author.Tests.{leb-true}
@@ -13,10 +12,9 @@ use Rattle.meaning.specs.Answers.{Refusal, is, refused}
 use Rattle.meaning.specs.Bits.{bitsOf}
 use Rattle.meaning.specs.List.{greatest}
 use Rattle.meaning.specs.String.{string}
-use Rattle.meaning.specs.Family.{tower}
 use Rattle.meaning.specs.Areas.{Held, Rooms, written, counted}
 use Rattle.meaning.specs.Refusals.{check, checks, firstOf}
-use Rattle.meaning.specs.Build.{Lent, After, Tree, roomsOf}
+use Rattle.meaning.specs.Build.{Lent, Tree, roomsOf}
 use Rattle.meaning.specs.Growth.{levelsOf, grown, grownTower, firstBits, bitsIn, soundIn, sound, growRefusal, grow}
 use Rattle.meaning.proofs.If.{if-none, if-some}
 use Rattle.meaning.proofs.Accepted.{check-none, first-none}
@@ -31,7 +29,7 @@ use Rattle.longer.specs.declared.Longer.{Longer}
 use Rattle.longer.specs.declared.Longer.the-variants as longer
 use Rattle.longer.proofs.Growing.{Sound, sound-is}
 use Rattle.parentheses.specs.Writes.{heldAt}
-use Rattle.parentheses.specs.Raises.{Raising, raising, raiseIn, Raises, saidRaised, roomsAt, stringChecks}
+use Rattle.parentheses.specs.Raises.{Raising, raising, raiseIn, Raises, saidRaised, stringChecks}
 use Rattle.parentheses.specs.declared.levels.Raised.{Raised}
 use Rattle.balanced_parens.specs.Said.{refusalOf, isMade, said, refusedOf}
 use Rattle.balanced_parens.specs.Areas.{lentAt, after, stagedIn}

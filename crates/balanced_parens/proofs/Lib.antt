@@ -7,3 +7,4 @@ pub mod Grows
 pub mod Agree
 pub mod Outcome
 pub mod Demands
+pub mod AnyGrowth

@@ -1,10 +1,10 @@
 -- The ways out of `raise_list`.
 use mathlib.Core.Path.{_≡_, refl, sym, ap, _∙_}
-use mathlib.Core.Option.{Option, none, some}
-use mathlib.Core.List.{List, [], _∷_}
-use Prim.Native.Nat.{ℕ, _+_}
-use lib.ListN.{length, replicate}
-use Rattle.meaning.specs.Answers.{Refusal, refused}
+use mathlib.Core.Option.{some}
+use mathlib.Core.List.{List}
+use Prim.Native.Nat.{ℕ}
+use lib.ListN.{length}
+use Rattle.meaning.specs.Answers.{Refusal}
 use Rattle.meaning.specs.String.{string}
 use Rattle.meaning.specs.Areas.{Held}
 use Rattle.meaning.specs.Refusals.{firstOf}

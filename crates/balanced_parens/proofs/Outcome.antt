@@ -1,10 +1,10 @@
 -- What an outcome says, where it is a tree t and the areas y, or a refusal and the areas n.
 use mathlib.Core.Path.{_≡_, refl, sym, ap, _∙_, subst}
-use mathlib.Core.Bool.{Bool, true, false}
+use mathlib.Core.Bool.{true, false}
 use mathlib.Core.Option.{Option, none, some}
 use Prim.Native.Nat.{ℕ}
 use native.Mathlib.Omega.{arith}
-use Rattle.meaning.specs.Answers.{Refusal, Answer, is, refused}
+use Rattle.meaning.specs.Answers.{Refusal, is, refused}
 use Rattle.meaning.specs.Build.{Lent, Tree, After}
 use Rattle.record.specs.Record.{treeIn, replyOf}
 use Rattle.record.specs.declared.Counts.{Counts}

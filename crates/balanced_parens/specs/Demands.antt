@@ -19,7 +19,7 @@ use Rattle.record.specs.Record.{treeIn, noCounts}
 use Rattle.record.specs.declared.Counts.{Counts}
 use Rattle.balanced_parens.specs.Said.{refusalOf, isMade}
 use Rattle.balanced_parens.specs.Areas.{after}
-use Rattle.balanced_parens.specs.Contract.{Builds, GrowsTo}
+use Rattle.balanced_parens.specs.Contract.{GrowsTo}
 use Rattle.balanced_parens.specs.declared.answer.Built.{Built}
 use Rattle.balanced_parens.specs.declared.answer.Verdict.the-variants as verdict
 

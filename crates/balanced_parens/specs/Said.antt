@@ -1,8 +1,7 @@
 -- 01's number and values for each answer of build and growth.
 use mathlib.Core.Bool.{Bool, true, false}
-use mathlib.Core.Option.{Option, none, some}
-use mathlib.Core.List.{List, [], _∷_}
-use Prim.Native.Nat.{ℕ}
+use mathlib.Core.Option.{Option, none}
+use mathlib.Core.List.{[], _∷_}
 use Rattle.meaning.specs.Answers.{Refusal, Answer}
 use Rattle.meaning.specs.Refusals.{refuse}
 use Rattle.meaning.specs.Build.{Tree}

@@ -1,7 +1,7 @@
 // Build: a tree from a list of levels and one of labels.
 ghost use mathlib.Core.Path.{_≡_};
 ghost use Prim.Native.Nat.{_≤_};
-ghost use lib.ListN.{length, replicate};
+ghost use lib.ListN.{length};
 ghost use lib.Seq.{paste};
 ghost use Rattle.meaning.specs.String.{string};
 ghost use Rattle.meaning.specs.Refusals.{firstOf};

@@ -1,5 +1,4 @@
 // Growth: a node at the list's end, from the bit string alone.
-ghost use mathlib.Core.Path.{_≡_};
 ghost use Prim.Native.Nat.{suc};
 ghost use lib.ListN.{length};
 ghost use Rattle.meaning.specs.Bits.{bitsOf};

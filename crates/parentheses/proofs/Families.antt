@@ -1,17 +1,16 @@
 -- The ways out of `plan_family`: what the dictionary's plan says of the flags of a level.
-use mathlib.Core.Path.{_≡_, refl, sym, ap, ap₂, _∙_, subst}
-use mathlib.Core.Bool.{Bool, true, false}
+use mathlib.Core.Path.{_≡_, refl, sym, ap, _∙_}
+use mathlib.Core.Bool.{Bool, false}
 use mathlib.Core.Option.{Option, none, some}
-use mathlib.Core.List.{List, [], _∷_}
+use mathlib.Core.List.{List}
 use Prim.Native.Nat.{ℕ, _+_, _-_, _*_, _/_, _≤_, _<_}
 use native.Mathlib.Omega.{arith}
-use lib.ListN.{length, getD, take, drop}
-use borrow.Author.Tests.{le-leb}
+use lib.ListN.{length, take, drop}
 use Rattle.meaning.specs.Answers.{Refusal, Answer, is, nothing, refused, broken}
-use Rattle.meaning.specs.Bits.{bitsOf, pack}
-use Rattle.meaning.specs.Pioneers.{flags, pioneerString}
-use Rattle.meaning.specs.Dictionary.{Dict, dictOf}
-use Rattle.meaning.specs.Refusals.{check, fullBlock, fullAt, firstOf}
+use Rattle.meaning.specs.Bits.{bitsOf}
+use Rattle.meaning.specs.Pioneers.{flags}
+use Rattle.meaning.specs.Dictionary.{dictOf}
+use Rattle.meaning.specs.Refusals.{fullBlock}
 use Rattle.meaning.specs.Direct.{Entries, entriesOf, dictPlan, mostBits}
 use Rattle.meaning.proofs.If.{clash}
 use Rattle.meaning.proofs.Pack.{length-pack}

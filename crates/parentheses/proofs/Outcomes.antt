@@ -3,7 +3,6 @@ use mathlib.Core.Path.{_≡_, refl, sym, ap, ap₂, _∙_, subst}
 use mathlib.Core.Bool.{Bool, true, false, _&&_}
 use mathlib.Core.Option.{Option, none, some}
 use mathlib.Core.List.{List, [], _∷_, _++_}
-use mathlib.Core.Logic.{_⊎_, inl, inr}
 use Prim.Native.Nat.{ℕ, _+_, _-_, _*_, _/_, _≤_, _<_}
 use native.Mathlib.Nat.{zero-add}
 use native.Mathlib.Omega.{arith}
@@ -11,13 +10,12 @@ use lib.Dec.{leb}
 use lib.ListN.{length, take, drop, replicate, length-replicate}
 use lib.Seq.{sets, sets-eq}
 use borrow.Author.Tests.{le-leb, lt-leb, leb-true}
-use Rattle.meaning.specs.Answers.{Refusal, Answer, is, refused, broken}
-use Rattle.meaning.specs.Bits.{bitsOf, wordCount}
+use Rattle.meaning.specs.Answers.{Refusal, is, refused, broken}
+use Rattle.meaning.specs.Bits.{bitsOf}
 use Rattle.meaning.specs.List.{greatest}
-use Rattle.meaning.specs.Family.{Level, tower}
+use Rattle.meaning.specs.Family.{tower}
 use Rattle.meaning.specs.Areas.{Rooms, Held, areaWords, areaBytes, areaMiddle, areaLarge, filled, written, counted}
-use Rattle.meaning.specs.Refusals.{refuse, check, fullFrom, firstOf}
-use Rattle.meaning.specs.Build.{Tree}
+use Rattle.meaning.specs.Refusals.{check, fullFrom, firstOf}
 use Rattle.meaning.specs.Growth.{oneRoot}
 use Rattle.meaning.specs.Direct.{Entries}
 use Rattle.meaning.proofs.If.{if-true, if-false, if-none, if-some, and-true, clash}
@@ -25,7 +23,6 @@ use Rattle.meaning.proofs.Accepted.{check-none, first-none}
 use Rattle.meaning.proofs.OneRoot.{one-root-test}
 use Rattle.meaning.proofs.Root.{root-walk}
 use Rattle.record.specs.Record.{treeIn, Sized}
-use Rattle.record.specs.declared.Counts.{Counts}
 use Rattle.record.proofs.Agree.{none-counted, tree-counted}
 use Rattle.sparse_one_nnd.specs.Said.{entriesIn}
 use Rattle.sparse_one_nnd.specs.declared.SparseOneNnd.{SparseOneNnd}
@@ -36,7 +33,7 @@ use Rattle.pioneers.proofs.Parts.{part-is}
 use Rattle.pioneers.proofs.Places.{drop-zeros}
 use Rattle.parentheses.specs.Plans.{said, isMade, aloneOf, sizesOf, SizesAre, PlanIs, Standing}
 use Rattle.parentheses.specs.Writes.{heldAt, put, Writing, WrittenIs}
-use Rattle.parentheses.specs.Raises.{layOf, stringIn, roomsAt, stringChecks, sizeChecks, saidRaised, madeOf, Raising, raising, raiseIn, refusedOf, Raises, Stands, Holds, Fills}
+use Rattle.parentheses.specs.Raises.{layOf, stringIn, roomsAt, stringChecks, sizeChecks, saidRaised, madeOf, raising, raiseIn, refusedOf, Raises, Stands, Holds, Fills}
 use Rattle.parentheses.specs.declared.levels.Verdict.{Verdict}
 use Rattle.parentheses.specs.declared.levels.Verdict.the-variants as verdict
 use Rattle.parentheses.specs.declared.plans.Sizes.{Sizes}

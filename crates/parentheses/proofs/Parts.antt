@@ -1,5 +1,5 @@
 -- The parts of a plan: the ways out of `add`, `last` and `above`.
-use mathlib.Core.Path.{_≡_, refl, sym, ap, ap₂, _∙_}
+use mathlib.Core.Path.{_≡_, sym, ap, ap₂, _∙_}
 use mathlib.Core.Bool.{Bool, true, false}
 use Prim.Native.Nat.{ℕ, _+_}
 use Rattle.meaning.specs.Bits.{wordCount}

@@ -1,19 +1,18 @@
 -- The ways out of `write_family`: a dictionary that has room is written.
-use mathlib.Core.Path.{_≡_, refl, sym, ap, ap₂, _∙_, subst}
-use mathlib.Core.Bool.{Bool, true, false}
+use mathlib.Core.Path.{_≡_, refl, sym, ap, _∙_, subst}
+use mathlib.Core.Bool.{Bool, false}
 use mathlib.Core.List.{List, [], _∷_}
-use mathlib.Core.Logic.{_⊎_, inl, inr}
-use Prim.Native.Nat.{ℕ, _+_, _-_, _*_, _/_, _≤_, _<_}
+use Prim.Native.Nat.{ℕ, _+_, _-_, _/_, _≤_}
 use native.Mathlib.Omega.{arith}
 use lib.ListN.{length, take, drop}
 use denote.Enum.Declared.{tagOf}
 use types.Run.{OneOf, miss}
 use Rattle.meaning.specs.Answers.{Answer, is, nothing, refused}
-use Rattle.meaning.specs.Bits.{bitsOf, pack}
-use Rattle.meaning.specs.Pioneers.{flags, pioneerString}
-use Rattle.meaning.specs.Dictionary.{Dict, dictOf}
+use Rattle.meaning.specs.Bits.{bitsOf}
+use Rattle.meaning.specs.Pioneers.{flags}
+use Rattle.meaning.specs.Dictionary.{dictOf}
 use Rattle.meaning.specs.Refusals.{fullBlock}
-use Rattle.meaning.specs.Direct.{Entries, DictAfter, DictAccepted, entriesOf, dictPut, dictRooms, dictRefusal, dictWrite, mostBits}
+use Rattle.meaning.specs.Direct.{Entries, DictAfter, DictAccepted, entriesOf, dictPut, dictRooms, dictWrite}
 use Rattle.meaning.proofs.If.{clash}
 use Rattle.meaning.proofs.Planned.{write-accepted}
 use Rattle.meaning.proofs.Pack.{length-pack}

@@ -8,8 +8,8 @@ use Prim.Native.Nat.{ℕ, zero, suc, _+_, _-_, _*_, _/_, _≤_, _<_}
 use native.Mathlib.Nat.{add-zero, add-suc, suc-add}
 use native.Mathlib.Omega.{arith}
 use lib.Dec.{leb}
-use lib.ListN.{length, getD, set, take, drop, replicate, length-append, length-drop, length-take}
-use lib.Seq.{sets, sets-eq, length-sets, paste, length-paste, ext-getD, getD-take, length-take-le}
+use lib.ListN.{length, set, take, drop, replicate, length-append}
+use lib.Seq.{sets, sets-eq, length-sets, paste, ext-getD, getD-take, length-take-le}
 use borrow.Author.Tests.{le-leb, lt-leb}
 use denote.Enum.Declared.{tagOf}
 use types.Run.{OneOf, miss}
@@ -17,15 +17,14 @@ use Rattle.meaning.specs.Answers.{Refusal}
 use Rattle.meaning.specs.Bits.{pack, wordsOf, wordCount}
 use Rattle.meaning.specs.Pioneers.{flags, pioneerString}
 use Rattle.meaning.specs.Dictionary.{Dict, dictOf}
-use Rattle.meaning.specs.Family.{Level, noDict, tower}
+use Rattle.meaning.specs.Family.{Level, tower}
 use Rattle.meaning.specs.Areas.{Held, joined, areaWords, areaBytes, areaMiddle, areaLarge}
-use Rattle.meaning.specs.Refusals.{refuse, fullBlock, fullAt, fullFrom}
+use Rattle.meaning.specs.Refusals.{fullBlock, fullAt, fullFrom}
 use Rattle.meaning.specs.Direct.{Entries, entriesOf, dictPut}
 use Rattle.meaning.proofs.Pack.{length-pack, pack-at}
 use Rattle.meaning.proofs.Words.{length-words}
 use Rattle.sparse_one_nnd.specs.Said.{entriesIn, dictAt}
 use Rattle.sparse_one_nnd.specs.declared.SparseOneNnd.{SparseOneNnd}
-use Rattle.pioneers.specs.Placed.{holding}
 use Rattle.pioneers.specs.Scratch.{textOf}
 use Rattle.pioneers.specs.declared.flags.Layout.{Layout}
 use Rattle.pioneers.proofs.Parts.{text-length}

@@ -12,7 +12,6 @@ use Rattle.meaning.specs.Dictionary.{dictOf}
 use Rattle.meaning.specs.Family.{Level, tower}
 use Rattle.meaning.specs.Areas.{areaWords, areaBytes, areaMiddle, areaLarge, counted}
 use Rattle.meaning.specs.Refusals.{refuse, fullBlock, fullFrom}
-use Rattle.meaning.specs.Build.{Tree}
 use Rattle.meaning.specs.Growth.{oneRoot}
 use Rattle.meaning.specs.Direct.{entriesOf, mostBits}
 use Rattle.record.specs.Record.{treeIn}

@@ -6,7 +6,7 @@ use Prim.Native.Nat.{ℕ, _+_, _*_, _/_, _≤_, _<_}
 use lib.ListN.{length, replicate}
 use lib.Seq.{sets}
 use Rattle.meaning.specs.Pioneers.{flags, pioneerString}
-use Rattle.meaning.specs.Dictionary.{Dict, dictOf}
+use Rattle.meaning.specs.Dictionary.{dictOf}
 use Rattle.meaning.specs.Family.{Level, tower}
 use Rattle.meaning.specs.Areas.{Held, areaWords, areaBytes, areaMiddle, areaLarge}
 use Rattle.meaning.specs.Refusals.{fullBlock, fullFrom}

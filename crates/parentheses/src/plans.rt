@@ -1,9 +1,8 @@
 // The plan: what each level takes, in scratch alone. "Each pioneer string is built upon in the same way until one has 64 bits or fewer".
 ghost use mathlib.Core.Path.{_≡_};
-ghost use mathlib.Core.Bool.{Bool, true};
+ghost use mathlib.Core.Bool.{true};
 ghost use Prim.Native.Nat.{_+_, _<_, _≤_};
 ghost use lib.ListN.{length, replicate};
-ghost use Rattle.meaning.specs.Bits.{wordCount};
 ghost use Rattle.pioneers.specs.Scratch.{textOf};
 ghost use Rattle.parentheses.specs.declared.levels.Verdict.the-variants as Verdict;
 ghost use Rattle.parentheses.specs.Plans.{isMade, aloneOf, shifted, sizesOf, added, aboveOf, Small, Standing, FamilyIs, PlanIs};

@@ -1,9 +1,4 @@
 // The writing of a string's levels into areas 0 to 3, of which each has room.
-ghost use mathlib.Core.Path.{_≡_};
-ghost use Prim.Native.Nat.{_<_, _≤_};
-ghost use lib.ListN.{length, replicate};
-ghost use Rattle.pioneers.specs.Scratch.{textOf};
-ghost use Rattle.parentheses.specs.Plans.{Standing};
 ghost use Rattle.parentheses.specs.Writes.{heldAt, Putting, PutIs, Writing, WrittenIs};
 use crate::copies::copy_words;
 use crate::plans::Family;

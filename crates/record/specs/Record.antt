@@ -1,7 +1,7 @@
 -- The record of counts: "one record of counts for up to five strings".
 use mathlib.Core.Path.{_≡_}
 use mathlib.Core.Option.{Option, none, some}
-use mathlib.Core.List.{List, [], _∷_}
+use mathlib.Core.List.{[], _∷_}
 use Prim.Native.Nat.{ℕ}
 use lib.ListN.{length, getD, replicate}
 use Rattle.meaning.specs.Answers.{Refusal, Answer, is, refused}
