@@ -1,0 +1,3 @@
+pub mod Replies
+pub mod Putting
+pub mod Called

@@ -1,0 +1,4 @@
+// The tree for a caller in C: every function by its plain name, on numbers and slices (include/oscjardum.h).
+pub mod asks;
+mod layout;
+mod reply;
