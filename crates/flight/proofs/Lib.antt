@@ -1,3 +1,5 @@
 pub mod Replies
 pub mod Putting
 pub mod Called
+pub mod Made
+pub mod Toured
