@@ -3,3 +3,4 @@ pub mod Putting
 pub mod Called
 pub mod Made
 pub mod Toured
+pub mod Agree

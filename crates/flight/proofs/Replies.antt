@@ -4,7 +4,7 @@ use mathlib.Core.Bool.{Bool, true, false}
 use mathlib.Core.List.{List, [], _∷_}
 use Prim.Native.Nat.{ℕ}
 use Rattle.meaning.specs.Answers.{is, refused}
-use Rattle.record.specs.Record.{treeIn}
+use Rattle.record.specs.Record.{treeIn, replyOf}
 use Rattle.record.specs.declared.Counts.{Counts}
 use Rattle.questions.specs.Said.{nodeOf, refusalOf, saidEdge, saidLabel, saidNumber, saidTruth}
 use Rattle.questions.specs.declared.Node.{Node}
@@ -116,25 +116,25 @@ module _ (x : List ℕ) where
   module _ (b : Built) where
     pub built-made : b .verdict ≡ verdict.Made → x ≡ 0 ∷ 1 ∷ b .counts .nodes ∷ 0 ∷ 0 ∷ [] → x ≡ reply ofTree (built.said b)
     unfolding treeIn
-    built-made = by (λ v. reply ofTree (built.replyOf (built.refusalOf v) (b .counts)))
+    built-made = by (λ v. reply ofTree (replyOf (built.refusalOf v) (b .counts)))
 
     pub built-lengths : b .verdict ≡ verdict.Lengths → x ≡ 1 ∷ 0 ∷ 0 ∷ 0 ∷ 0 ∷ [] → x ≡ reply ofTree (built.said b)
-    built-lengths = by (λ v. reply ofTree (built.replyOf (built.refusalOf v) (b .counts)))
+    built-lengths = by (λ v. reply ofTree (replyOf (built.refusalOf v) (b .counts)))
 
     pub built-many : (n : ℕ) → b .verdict ≡ verdict.Many n → x ≡ 2 ∷ 0 ∷ n ∷ 0 ∷ 0 ∷ [] → x ≡ reply ofTree (built.said b)
-    built-many n = by (λ v. reply ofTree (built.replyOf (built.refusalOf v) (b .counts)))
+    built-many n = by (λ v. reply ofTree (replyOf (built.refusalOf v) (b .counts)))
 
     pub built-level : (k : ℕ) → b .verdict ≡ verdict.Level k → x ≡ 3 ∷ 0 ∷ k ∷ 0 ∷ 0 ∷ [] → x ≡ reply ofTree (built.said b)
-    built-level k = by (λ v. reply ofTree (built.replyOf (built.refusalOf v) (b .counts)))
+    built-level k = by (λ v. reply ofTree (replyOf (built.refusalOf v) (b .counts)))
 
     pub built-room : (a : ℕ) → b .verdict ≡ verdict.Room a → x ≡ 4 ∷ 0 ∷ a ∷ 0 ∷ 0 ∷ [] → x ≡ reply ofTree (built.said b)
-    built-room a = by (λ v. reply ofTree (built.replyOf (built.refusalOf v) (b .counts)))
+    built-room a = by (λ v. reply ofTree (replyOf (built.refusalOf v) (b .counts)))
 
     pub built-full : (l k : ℕ) → b .verdict ≡ verdict.Full l k → x ≡ 5 ∷ 0 ∷ l ∷ k ∷ 0 ∷ [] → x ≡ reply ofTree (built.said b)
-    built-full l k = by (λ v. reply ofTree (built.replyOf (built.refusalOf v) (b .counts)))
+    built-full l k = by (λ v. reply ofTree (replyOf (built.refusalOf v) (b .counts)))
 
     pub built-deep : b .verdict ≡ verdict.Deep → x ≡ 6 ∷ 0 ∷ 0 ∷ 0 ∷ 0 ∷ [] → x ≡ reply ofTree (built.said b)
-    built-deep = by (λ v. reply ofTree (built.replyOf (built.refusalOf v) (b .counts)))
+    built-deep = by (λ v. reply ofTree (replyOf (built.refusalOf v) (b .counts)))
 
     pub built-broken : b .verdict ≡ verdict.Broken → x ≡ 9 ∷ 0 ∷ 0 ∷ 0 ∷ 0 ∷ [] → x ≡ reply ofTree (built.said b)
-    built-broken = by (λ v. reply ofTree (built.replyOf (built.refusalOf v) (b .counts)))
+    built-broken = by (λ v. reply ofTree (replyOf (built.refusalOf v) (b .counts)))

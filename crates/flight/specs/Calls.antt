@@ -5,8 +5,7 @@ use Prim.Native.Nat.{ℕ}
 use lib.ListN.{length, replicate}
 use lib.Seq.{sets}
 use Rattle.meaning.specs.Answers.{Answer, is, nothing, refused}
-use Rattle.meaning.specs.Areas.{Rooms}
-use Rattle.meaning.specs.Build.{Lent, Tree, After, zeroed, build}
+use Rattle.meaning.specs.Build.{Lent, roomsOf, Tree, After, zeroed, build}
 use Rattle.meaning.specs.Growth.{grow}
 use Rattle.meaning.specs.Walking.{WalkRooms, Walked, walking}
 use Rattle.flight.specs.declared.reply.Reply.{Reply}
@@ -58,11 +57,11 @@ made r z out x =
     record { returned = status (x .reply); out = put ofTree (x .reply) out; counts = kept r z (x .reply); areas = x .areas }
 
 -- "A refused build leaves all six areas zero", and the record
-unfoldable pub building : List ℕ → List ℕ → Rooms → List ℕ → List ℕ → Made
-building levels labels rooms r out =
+unfoldable pub building : List ℕ → List ℕ → Lent → List ℕ → List ℕ → Made
+building levels labels a r out =
     elim (short (length r) (length out)) [
-      | true ↦ record { returned = 15; out = out; counts = r; areas = zeroed rooms }
-      | false ↦ made r (sets r 0 (replicate 18 0)) out (build levels labels rooms)
+      | true ↦ record { returned = 15; out = out; counts = r; areas = zeroed (roomsOf a) }
+      | false ↦ made r (sets r 0 (replicate 18 0)) out (build levels labels (roomsOf a))
     ]
 
 -- "Scratch is zero after every call"

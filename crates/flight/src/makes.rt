@@ -7,7 +7,6 @@ use crate::layout::tell;
 use crate::reply;
 use balanced_parens::answer::Built;
 use balanced_parens::answer::is_made;
-use balanced_parens::answer::refuse;
 use balanced_parens::builder::build;
 use balanced_parens::growth::grow;
 use words::zero8;
@@ -16,25 +15,10 @@ use words::zero32;
 use words::zero64;
 ghost use mathlib.Core.Path.{_≡_};
 ghost use Prim.Native.Nat.{_≤_};
-ghost use lib.ListN.{length, replicate};
-ghost use lib.Seq.{sets};
+ghost use lib.ListN.{length};
 ghost use Rattle.balanced_parens.specs.Said.{said};
-ghost use Rattle.balanced_parens.specs.Areas.{lentAt, roomsFor, Cleared};
+ghost use Rattle.balanced_parens.specs.Areas.{lentAt, Cleared};
 ghost use Rattle.flight.specs.Calls.{make, kept, building, growing};
-
-// The record after a build: refused, zeros.
-fn record_built(counts: &mut [usize], b: Built)
-    requires { ⌜ 18 ≤ length (now counts) ⌝ }
-    ensures { λ _. ⌜ now (counts .exit) ≡ kept (now (counts .entry)) (sets (now (counts .entry)) 0 (replicate 18 0)) (said b) ⌝ }
-{
-    let v = b.verdict;
-    if is_made(v) {
-        put_counts(counts, b.counts);
-        return;
-    }
-    let none = refuse(v);
-    put_counts(counts, none.counts);
-}
 
 // The record after growth: refused, it stays.
 fn record_grown(counts: &mut [usize], b: Built)
@@ -78,15 +62,24 @@ pub extern "C" fn oscjardum_build(
     counts: &mut [usize],
     out: &mut [usize],
 ) -> usize
-    ensures { λ r. ⌜ make r (now (out .exit)) (now (counts .exit)) (lentAt (now (words .exit)) (now (bytes .exit)) (now (middles .exit)) (now (larges .exit)) (now (labels .exit)) (now (scratch .exit))) ≡ building (now (levels .entry)) (now («list_labels» .entry)) (roomsFor (now (words .entry)) (now (bytes .entry)) (now (middles .entry)) (now (larges .entry)) (now (labels .entry)) (now (scratch .entry))) (now (counts .entry)) (now (out .entry)) ⌝ }
+    ensures { λ r. ⌜ make r (now (out .exit)) (now (counts .exit)) (lentAt (now (words .exit)) (now (bytes .exit)) (now (middles .exit)) (now (larges .exit)) (now (labels .exit)) (now (scratch .exit))) ≡ building (now (levels .entry)) (now («list_labels» .entry)) (lentAt (now (words .entry)) (now (bytes .entry)) (now (middles .entry)) (now (larges .entry)) (now (labels .entry)) (now (scratch .entry))) (now (counts .entry)) (now (out .entry)) ⌝ }
 {
     if short(counts.len(), out.len()) {
         zero_areas(words, bytes, middles, larges, labels);
         zero64(scratch);
         return SHORT;
     }
-    let b = build(levels, list_labels, words, bytes, middles, larges, labels, scratch);
-    record_built(counts, b);
+    let b = build(
+        levels,
+        list_labels,
+        words,
+        bytes,
+        middles,
+        larges,
+        labels,
+        scratch,
+    );
+    put_counts(counts, b.counts);
     tell(out, reply::of_built(b))
 }
 
@@ -111,7 +104,17 @@ pub extern "C" fn oscjardum_grow(
         return SHORT;
     }
     let c = counts_of(counts);
-    let b = grow(words, bytes, middles, larges, labels, scratch, c, level, label);
+    let b = grow(
+        words,
+        bytes,
+        middles,
+        larges,
+        labels,
+        scratch,
+        c,
+        level,
+        label,
+    );
     record_grown(counts, b);
     tell(out, reply::of_built(b))
 }

@@ -35,6 +35,16 @@ pub extern "C" fn oscjardum_walk(
         return SHORT;
     }
     let c = counts_of(counts);
-    let w = walk(words, bytes, middles, larges, labels, c, out_levels, out_labels, scratch);
+    let w = walk(
+        words,
+        bytes,
+        middles,
+        larges,
+        labels,
+        c,
+        out_levels,
+        out_labels,
+        scratch,
+    );
     tell(out, reply::of_walked(w))
 }

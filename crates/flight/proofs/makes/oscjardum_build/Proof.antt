@@ -1,4 +1,4 @@
--- `oscjardum_build`: each way out by its law.
+-- `oscjardum_build`: SHORT; or the build, the record and the answer told.
 use Rattle.flight.proofs.Putting.{long-counts, long-out}
 use Rattle.flight.proofs.Made.{build-short, build-told}
 use borrow.Author.Needs.{needs}
@@ -33,19 +33,20 @@ same-length-6 : tie.Need-same-length-6
 same-length-6 c = search needs
 
 returns : tie.Need-returns
-returns c = search (build-short, needs)
+returns c =
+    build-short _ _ _ _ _ _ _ _ _ _ _ _ _ _ _ _ _ (c .before .before .before .before .before .before .before .before .before .before .before .before .before .before .before .before .before .before .before .before .before .short .ensures) (c .before .before .before .before .before .before .before .before .before .before .before .before .before .before .before .before .before .before .before .before .if1 .taken) (c .before .before .before .before .before .before .before .before .before .before .before .before .before .before .zero-areas .ensures) (c .before .before .zero64 .ensures)
 
 build-requires : tie.Need-build-requires
 build-requires c κs = search needs
 
-record-built-requires : tie.Need-record-built-requires
-record-built-requires c κs = search (long-counts, needs)
+put-counts-requires : tie.Need-put-counts-requires
+put-counts-requires c κs = long-counts _ _ _ (c .before .before .before .before .before .before .before .before .before .before .before .before .before .before .before .before .before .before .before .before .before .short .ensures) (c .before .before .before .before .before .before .before .before .before .before .before .before .before .before .before .before .before .before .before .before .if1 .left)
 
 of-built-requires : tie.Need-of-built-requires
 of-built-requires c κs = search needs
 
 tell-requires : tie.Need-tell-requires
-tell-requires c κs = search (long-out, needs)
+tell-requires c κs = long-out _ _ _ (c .before .before .before .before .before .before .before .before .before .before .before .before .before .before .before .before .before .before .before .before .before .before .before .before .before .before .short .ensures) (c .before .before .before .before .before .before .before .before .before .before .before .before .before .before .before .before .before .before .before .before .before .before .before .before .before .if1 .left)
 
 same-length-7 : tie.Need-same-length-7
 same-length-7 c = search needs
@@ -72,7 +73,8 @@ same-length-14 : tie.Need-same-length-14
 same-length-14 c = search needs
 
 returns-2 : tie.Need-returns-2
-returns-2 c = search (build-told, needs)
+returns-2 c =
+    build-told _ _ _ _ _ _ _ _ _ _ _ _ (c .before .before .before .before .before .before .before .before .before .before .before .before .before .before .before .before .before .before .before .before .before .before .before .before .before .before .before .before .before .short .ensures) (c .before .before .before .before .before .before .before .before .before .before .before .before .before .before .before .before .before .before .before .before .before .before .before .before .before .before .before .before .if1 .left) (c .before .before .before .before .before .before .before .before .before .before .before .before .before .before .before .before .before .before .before .before .before .build .ensures) (c .before .before .before .before .before .before .before .put-counts .ensures) (c .before .before .before .of-built .ensures) (c .before .before .tell .ensures)
 
 pub oscjardum-build-spec : {M : Type 1} → statement M
 oscjardum-build-spec =
@@ -89,7 +91,7 @@ oscjardum-build-spec =
     same-length-6
     returns
     build-requires
-    record-built-requires
+    put-counts-requires
     of-built-requires
     tell-requires
     same-length-7

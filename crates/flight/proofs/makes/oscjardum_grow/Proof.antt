@@ -1,4 +1,4 @@
--- `oscjardum_grow`: each way out by its law.
+-- `oscjardum_grow`: SHORT; or the growth, the record and the answer told.
 use Rattle.flight.proofs.Putting.{long-counts, long-out}
 use Rattle.flight.proofs.Made.{grow-short, grow-told}
 use borrow.Author.Needs.{needs}
@@ -15,7 +15,8 @@ same-length : tie.Need-same-length
 same-length c = search needs
 
 returns : tie.Need-returns
-returns c = search (grow-short, needs)
+returns c =
+    grow-short _ _ _ _ _ _ _ _ _ _ _ _ (c .before .before .before .before .before .short .ensures) (c .before .before .before .before .if1 .taken) (c .before .before .zero64 .ensures)
 
 counts-of-requires : tie.Need-counts-of-requires
 counts-of-requires c κs = search needs
@@ -24,13 +25,13 @@ grow-requires : tie.Need-grow-requires
 grow-requires c κs = search needs
 
 record-grown-requires : tie.Need-record-grown-requires
-record-grown-requires c κs = search (long-counts, needs)
+record-grown-requires c κs = long-counts _ _ _ (c .before .before .before .before .before .before .before .before .before .before .before .before .before .before .before .before .before .before .before .before .before .before .before .short .ensures) (c .before .before .before .before .before .before .before .before .before .before .before .before .before .before .before .before .before .before .before .before .before .before .if1 .left)
 
 of-built-requires : tie.Need-of-built-requires
 of-built-requires c κs = search needs
 
 tell-requires : tie.Need-tell-requires
-tell-requires c κs = search (long-out, needs)
+tell-requires c κs = long-out _ _ _ (c .before .before .before .before .before .before .before .before .before .before .before .before .before .before .before .before .before .before .before .before .before .before .before .before .before .before .before .before .short .ensures) (c .before .before .before .before .before .before .before .before .before .before .before .before .before .before .before .before .before .before .before .before .before .before .before .before .before .before .before .if1 .left)
 
 same-length-2 : tie.Need-same-length-2
 same-length-2 c = search needs
@@ -57,7 +58,8 @@ same-length-9 : tie.Need-same-length-9
 same-length-9 c = search needs
 
 returns-2 : tie.Need-returns-2
-returns-2 c = search (grow-told, needs)
+returns-2 c =
+    grow-told _ _ _ _ _ _ _ _ _ _ _ _ _ (c .before .before .before .before .before .before .before .before .before .before .before .before .before .before .before .before .before .before .before .before .before .before .before .before .before .before .before .before .before .before .before .short .ensures) (c .before .before .before .before .before .before .before .before .before .before .before .before .before .before .before .before .before .before .before .before .before .before .before .before .before .before .before .before .before .before .if1 .left) (c .before .before .before .before .before .before .before .before .before .before .before .before .before .before .before .before .before .before .before .before .before .before .before .before .before .before .before .before .counts-of .ensures) (c .before .before .before .before .before .before .before .before .before .before .before .before .before .before .before .before .before .before .before .before .before .grow .ensures) (c .before .before .before .before .before .before .before .record-grown .ensures) (c .before .before .before .of-built .ensures) (c .before .before .tell .ensures)
 
 pub oscjardum-grow-spec : {M : Type 1} → statement M
 oscjardum-grow-spec =

@@ -1,4 +1,4 @@
--- `oscjardum_walk`: each way out by its law.
+-- `oscjardum_walk`: SHORT; or the walk, and the answer told.
 use Rattle.flight.proofs.Putting.{long-out}
 use Rattle.flight.proofs.Toured.{tour-short, tour-told}
 use borrow.Author.Needs.{needs}
@@ -27,7 +27,10 @@ same-length-3 : tie.Need-same-length-3
 same-length-3 c = search needs
 
 returns : tie.Need-returns
-returns c = search (tour-short, needs)
+returns c =
+    let a = c .before .before .before .before .before .before .before .before .before .before .before .before .before .before .before .before .before .before .before .before .before .before .before .before .args in
+    tour-short _ (a .counts .now) (a .out-levels .now) (a .out-labels .now) (a .scratch .now) (a .out .now) _ _ _ _ (c .before .before .before .before .before .before .before .before .before .before .before .before .before .short .ensures) (c .before .before .before .before .before .before .before .before .before .before .before .before .if1 .taken)
+    (c .before .before .before .before .before .before .before .before .before .before .zero32 .ensures) (c .before .before .before .before .before .before .zero322 .ensures) (c .before .before .zero64 .ensures)
 
 counts-of-requires : tie.Need-counts-of-requires
 counts-of-requires c κs = search needs
@@ -39,7 +42,7 @@ of-walked-requires : tie.Need-of-walked-requires
 of-walked-requires c κs = search needs
 
 tell-requires : tie.Need-tell-requires
-tell-requires c κs = search (long-out, needs)
+tell-requires c κs = long-out _ _ _ (c .before .before .before .before .before .before .before .before .before .before .before .before .before .before .short .ensures) (c .before .before .before .before .before .before .before .before .before .before .before .before .before .if1 .left)
 
 same-length-4 : tie.Need-same-length-4
 same-length-4 c = search needs
