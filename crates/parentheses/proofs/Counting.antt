@@ -26,7 +26,7 @@ use Rattle.record.specs.declared.Counts.{Counts}
 use Rattle.sparse_one_nnd.specs.Said.{entriesIn}
 use Rattle.sparse_one_nnd.specs.declared.SparseOneNnd.{SparseOneNnd}
 use Rattle.parentheses.specs.Plans.{aloneOf, shifted, sizesOf, added, Small, SizesAre}
-use Rattle.parentheses.specs.declared.levels.Sizes.{Sizes}
+use Rattle.parentheses.specs.declared.plans.Sizes.{Sizes}
 
 -- the two forms of a level, and the towers of them
 abbrev pub single : List Bool → Level

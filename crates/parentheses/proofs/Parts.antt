@@ -9,8 +9,8 @@ use Rattle.sparse_one_nnd.specs.Said.{entriesIn}
 use Rattle.sparse_one_nnd.specs.declared.SparseOneNnd.{SparseOneNnd}
 use Rattle.parentheses.specs.Plans.{isMade, shifted, sizesOf, added, planOf, aboveIf, aboveOf}
 use Rattle.parentheses.specs.declared.levels.Verdict.the-variants as verdict
-use Rattle.parentheses.specs.declared.levels.Sizes.{Sizes}
-use Rattle.parentheses.specs.declared.levels.Plan.{Plan}
+use Rattle.parentheses.specs.declared.plans.Sizes.{Sizes}
+use Rattle.parentheses.specs.declared.plans.Plan.{Plan}
 
 abbrev dictOf : Entries → SparseOneNnd
 dictOf e = record { bytes = e .bytes; middles = e .middle; larges = e .large }

@@ -30,7 +30,7 @@ use Rattle.pioneers.proofs.Parts.{text-length}
 use Rattle.parentheses.specs.Plans.{said, isMade, aloneOf, sizesOf, planOf, aboveIf, aboveOf, Small, SizesAre, PlanIs, Standing, FamilyIs}
 use Rattle.parentheses.specs.declared.levels.Verdict.{Verdict}
 use Rattle.parentheses.specs.declared.levels.Verdict.the-variants as verdict
-use Rattle.parentheses.specs.declared.levels.Plan.{Plan}
+use Rattle.parentheses.specs.declared.plans.Plan.{Plan}
 use Rattle.parentheses.specs.declared.plans.Family.{Family}
 use Rattle.parentheses.specs.declared.plans.Family.the-variants as family
 use Rattle.parentheses.proofs.Holds.{level-root, standing-next}

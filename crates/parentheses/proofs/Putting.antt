@@ -14,8 +14,8 @@ use Rattle.meaning.specs.Pioneers.{flags, pioneerString}
 use Rattle.meaning.specs.Dictionary.{Dict, dictOf}
 use Rattle.meaning.specs.Refusals.{fullBlock}
 use Rattle.meaning.specs.Direct.{Entries, DictAfter, DictAccepted, entriesOf, dictPut, dictRooms, dictRefusal, dictWrite, mostBits}
-use Rattle.meaning.proofs.If.{if-none, clash}
-use Rattle.meaning.proofs.Direct.{dict-exactly}
+use Rattle.meaning.proofs.If.{clash}
+use Rattle.meaning.proofs.Planned.{write-accepted}
 use Rattle.meaning.proofs.Pack.{length-pack}
 use Rattle.sparse_one_nnd.specs.Said.{entriesIn, dictAt, saidBuilt, after}
 use Rattle.sparse_one_nnd.specs.declared.SparseOneNnd.{SparseOneNnd}
@@ -86,9 +86,8 @@ module _ (scr : List ℕ) (lay : Layout) (o : SparseOneNnd) (b m g : List ℕ) (
       }
 
   wrote : dictWrite W (lay .bits) (entriesIn o) (dictAt b m g) ≡ after (is (entriesOf (dictOf (flags l)))) (dictPut (entriesIn o) (dictOf (flags l)) (dictAt b m g))
-  unfolding dictWrite
   wrote =
-      if-none _ _ (dict-exactly W (lay .bits) (dictRooms (entriesIn o) (dictAt b m g)) .1 rooms)
+      write-accepted W (lay .bits) (entriesIn o) (dictAt b m g) rooms
       ∙ ap (λ f. after (is (entriesOf (dictOf f))) (dictPut (entriesIn o) (dictOf f) (dictAt b m g))) bits-are
 
   module _ (w : sparse.Built) (b′ m′ g′ : List ℕ)

@@ -21,7 +21,7 @@ use Rattle.pioneers.proofs.Parts.{lt-or-ge, zeros-at, part-is, part-new, part-z
 use Rattle.parentheses.specs.Copies.{Apart}
 use Rattle.parentheses.specs.Plans.{Standing, PlanIs}
 use Rattle.parentheses.specs.Raises.{layOf, stringIn, Stands, Holds}
-use Rattle.parentheses.specs.declared.levels.Plan.{Plan}
+use Rattle.parentheses.specs.declared.plans.Plan.{Plan}
 use Rattle.parentheses.proofs.Holds.{length-holding, text-held}
 use Rattle.parentheses.proofs.Copied.{paste-else, paste-there}
 

@@ -31,7 +31,7 @@ use Rattle.pioneers.specs.declared.flags.Layout.{Layout}
 use Rattle.pioneers.proofs.Parts.{text-length}
 use Rattle.parentheses.specs.Plans.{added, Small, Standing}
 use Rattle.parentheses.specs.Writes.{heldAt, put, Putting, PutIs, Writing, WrittenIs}
-use Rattle.parentheses.specs.declared.levels.Sizes.{Sizes}
+use Rattle.parentheses.specs.declared.plans.Sizes.{Sizes}
 use Rattle.parentheses.specs.declared.plans.Family.{Family}
 use Rattle.parentheses.specs.declared.plans.Family.the-variants as family
 use Rattle.parentheses.proofs.plans.Family as family-type
@@ -57,7 +57,7 @@ take-pack a k l h =
     size : length (take a (pack k l)) ≡ a
     size = length-take-le a (pack k l) (omega (arith, length-pack k l))
 
-held-ext : (a b : Held) → a .words ≡ b .words → a .bytes ≡ b .bytes → a .middle ≡ b .middle → a .large ≡ b .large → a ≡ b
+pub held-ext : (a b : Held) → a .words ≡ b .words → a .bytes ≡ b .bytes → a .middle ≡ b .middle → a .large ≡ b .large → a ≡ b
 held-ext a b p q r s = λ i. record { words = p i; bytes = q i; middle = r i; large = s i }
 
 full-next : (v : ℕ) (o : Option ℕ) (r : Option Refusal) → fullAt v o r ≡ none → (o ≡ none) × (r ≡ none)

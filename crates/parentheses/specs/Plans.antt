@@ -24,8 +24,8 @@ use Rattle.pioneers.specs.Scratch.{textOf, fitsIn}
 use Rattle.pioneers.specs.declared.flags.Layout.{Layout}
 use Rattle.parentheses.specs.declared.levels.Verdict.{Verdict}
 use Rattle.parentheses.specs.declared.levels.Verdict.the-variants as verdict
-use Rattle.parentheses.specs.declared.levels.Sizes.{Sizes}
-use Rattle.parentheses.specs.declared.levels.Plan.{Plan}
+use Rattle.parentheses.specs.declared.plans.Sizes.{Sizes}
+use Rattle.parentheses.specs.declared.plans.Plan.{Plan}
 use Rattle.parentheses.specs.declared.plans.Family.{Family}
 use Rattle.parentheses.specs.declared.plans.Family.the-variants as family
 

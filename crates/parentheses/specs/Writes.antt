@@ -17,7 +17,7 @@ use Rattle.pioneers.specs.Placed.{holding}
 use Rattle.pioneers.specs.Scratch.{textOf}
 use Rattle.pioneers.specs.declared.flags.Layout.{Layout}
 use Rattle.parentheses.specs.Plans.{Standing}
-use Rattle.parentheses.specs.declared.levels.Sizes.{Sizes}
+use Rattle.parentheses.specs.declared.plans.Sizes.{Sizes}
 use Rattle.parentheses.specs.declared.plans.Family.{Family}
 use Rattle.parentheses.specs.declared.plans.Family.the-variants as family
 

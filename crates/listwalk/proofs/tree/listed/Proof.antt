@@ -1,6 +1,7 @@
 -- `listwalk::tree::listed` meets its contract. Assumes nothing.
 use mathlib.Core.Path.{sym, _∙_}
 use native.Mathlib.Omega.{arith}
+use Rattle.meaning.specs.Build.{roomsOf}
 use Rattle.listwalk.proofs.Build.{stands, listed-made, listed-refused}
 use borrow.Author.Needs.{needs}
 use Rattle.listwalk.proofs.tree.listed.Statement.{statement}
@@ -49,16 +50,17 @@ write-listing-requires : tie.Need-write-listing-requires
 write-listing-requires c κs =
     let a = c .before .before .before .before .before .before .before .before .before .before .before .before .before .before .before .before .before .before .before .before .before .before .before .before .before in
     let b = c .before .before .before .before .before .before .before .before .before .before .before .before .before .before .before in
-    (a .pre .1, stands (a .args .levels .now) (a .args .labels .now) _ (b .build .result) _ _ _ _ _ _ (b .build .ensures) (sym (c .before .before .before .before .before .before .before .is-made .ensures) ∙ c .before .before .before .before .before .before .if1 .taken))
+    (a .pre .1, stands (a .args .levels .now) (a .args .labels .now) _ (b .build .result) _ _ _ _ _ _ (b .build .ensures .outcome) (sym (c .before .before .before .before .before .before .before .is-made .ensures) ∙ c .before .before .before .before .before .before .if1 .taken))
 
 same-length : tie.Need-same-length
 same-length c = search needs
 
 returns : tie.Need-returns
+unfolding roomsOf
 returns c =
     let a = c .before .before .before .before .before .before .before .before .before .before .before .before .before .before .before .before .before .before .before .before .before .before .before .before .before .before .before .before in
     let b = c .before .before .before .before .before .before .before .before .before .before .before .before .before .before .before .before .before .before in
-    listed-made (a .args .levels .now) (a .args .labels .now) _ (b .build .result) _ _ _ _ _ _ (b .build .ensures) (a .pre .0) (a .pre .1)
+    listed-made (a .args .levels .now) (a .args .labels .now) _ (b .build .result) _ _ _ _ _ _ (b .build .ensures .outcome) (a .pre .0) (a .pre .1)
     (record { words = omega arith; bytes = omega arith; middle = omega arith; large = omega arith; labels = omega arith; scratch = omega arith })
     (sym (c .before .before .before .before .before .before .before .before .before .before .is-made .ensures) ∙ c .before .before .before .before .before .before .before .before .before .if1 .taken) (c .before .before .write-listing .ensures)
 
@@ -69,10 +71,11 @@ same-length-2 : tie.Need-same-length-2
 same-length-2 c = search needs
 
 returns-2 : tie.Need-returns-2
+unfolding roomsOf
 returns-2 c =
     let a = c .before .before .before .before .before .before .before .before .before .before .before .before .before .before .before .before .before .before .before .before .before .before .before in
     let b = c .before .before .before .before .before .before .before .before .before .before .before .before .before in
-    listed-refused (a .args .levels .now) (a .args .labels .now) _ (b .build .result) _ _ _ _ _ _ (b .build .ensures) (a .pre .0) (a .pre .1)
+    listed-refused (a .args .levels .now) (a .args .labels .now) _ (b .build .result) _ _ _ _ _ _ (b .build .ensures .outcome) (a .pre .0) (a .pre .1)
     (record { words = omega arith; bytes = omega arith; middle = omega arith; large = omega arith; labels = omega arith; scratch = omega arith })
     (sym (c .before .before .before .before .before .is-made .ensures) ∙ c .before .before .before .before .if1 .left) (c .before .before .write-verdict .ensures)
 
