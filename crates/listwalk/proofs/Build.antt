@@ -26,8 +26,8 @@ use Rattle.meaning.proofs.Lent.{bits-in}
 use Rattle.meaning.proofs.Questions.{bytes-held}
 use Rattle.meaning.proofs.Listwalk.{only-level}
 use Rattle.record.specs.declared.Counts.{Counts}
-use Rattle.record.specs.Record.{treeIn}
-use Rattle.balanced_parens.specs.Said.{refusalOf, isMade, replyOf, said}
+use Rattle.record.specs.Record.{treeIn, replyOf}
+use Rattle.balanced_parens.specs.Said.{refusalOf, isMade, said}
 use Rattle.balanced_parens.specs.Areas as six
 use Rattle.balanced_parens.specs.Areas.{after}
 use Rattle.balanced_parens.specs.declared.answer.Built.{Built}
