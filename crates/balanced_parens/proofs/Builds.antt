@@ -1,31 +1,31 @@
 -- The ways out of `build`.
-use mathlib.Core.Path.{_≡_, refl, sym, ap, ap₂, _∙_}
-use mathlib.Core.Bool.{Bool, true, false}
+use mathlib.Core.Path.{_≡_, refl, sym, ap, _∙_}
+use mathlib.Core.Bool.{true, false}
 use mathlib.Core.Logic.{_⊎_, inl, inr}
 use mathlib.Core.Option.{Option, none, some}
 use mathlib.Core.List.{List, [], _∷_, _++_}
 use Prim.Native.Nat.{ℕ, _≤_}
 use native.Mathlib.Omega.{arith}
-use lib.Dec.{eqb}
 use lib.ListN.{length, replicate, length-replicate}
 use lib.Seq.{paste}
 use borrow.Author.Tests.{eq-eqb, ne-eqb}
-use Rattle.meaning.specs.Answers.{Refusal, Answer, is, refused}
+use Rattle.meaning.specs.Answers.{Refusal, is, refused}
 use Rattle.meaning.specs.String.{string}
 use Rattle.meaning.specs.Family.{tower}
-use Rattle.meaning.specs.Areas.{Rooms, Held, written, counted, filled}
-use Rattle.meaning.specs.Refusals.{check, checks, firstOf, refusal, Accepted}
-use Rattle.meaning.specs.Build.{Lent, After, Tree, treeOf, lentOf, zeroed, build}
+use Rattle.meaning.specs.Areas.{Rooms, written}
+use Rattle.meaning.specs.Refusals.{check, checks, firstOf, refusal}
+use Rattle.meaning.specs.Build.{Lent, roomsOf, treeOf, lentOf, zeroed, build}
 use Rattle.meaning.proofs.If.{if-none, if-some}
 use Rattle.meaning.proofs.Accepted.{accepted-exactly}
 use Rattle.pioneers.specs.Placed.{listChecks}
 use Rattle.parentheses.specs.Writes.{heldAt}
-use Rattle.parentheses.specs.Raises.{Raising, raising, roomsAt, stringChecks}
+use Rattle.parentheses.specs.Raises.{Raising, raising, stringChecks}
 use Rattle.balanced_parens.specs.Said.{isMade, said, refusedOf}
-use Rattle.balanced_parens.specs.Areas.{lentAt, roomsFor, after, stagedIn, Blank, Cleared}
+use Rattle.balanced_parens.specs.Areas.{lentAt, after, stagedIn, Blank, Cleared}
+use Rattle.balanced_parens.specs.Contract.{Builds, Staged}
 use Rattle.balanced_parens.specs.declared.answer.Built.{Built}
 use Rattle.balanced_parens.specs.declared.answer.Verdict.the-variants as verdict
-use Rattle.balanced_parens.proofs.Replies.{refused-says, made-tree, not-tree}
+use Rattle.balanced_parens.proofs.Replies.{refused-says, refused-counts, made-tree, not-tree}
 use Rattle.balanced_parens.proofs.Labels.{labels-filled}
 
 -- one check after another, some of them first
@@ -46,12 +46,15 @@ parted vs rooms = first-append (listChecks vs (rooms .scratch)) (stringChecks (s
 
 -- a build into areas that are zero
 module _ (vs bs w b m g u s : List ℕ) (h : (length vs ≡ length bs) × Blank w b m g u) (o : Built) (w′ b′ m′ g′ s′ : List ℕ)
-    (q : raising (said o) (heldAt w′ b′ m′ g′) s′ ≡ stagedIn (firstOf (listChecks vs (length s))) (string vs) (length vs) (heldAt w b m g) (length u) (length s)) where
+    (q : Staged (stagedIn (firstOf (listChecks vs (length s))) (string vs) (length vs) (heldAt w b m g) (length u) (length s)) (heldAt w′ b′ m′ g′) s′ o) where
+  abbrev lent : Lent
+  lent = lentAt w b m g u s
+
   abbrev rooms : Rooms
-  rooms = roomsFor w b m g u s
+  rooms = roomsOf lent
 
   refusal-is : refusal vs bs rooms ≡ firstOf (firstOf (listChecks vs (length s)) ∷ stringChecks (string vs) (length vs) rooms)
-  unfolding refusal firstOf check
+  unfolding refusal firstOf check roomsOf
   refusal-is = ap (λ x. firstOf (check x 1 (0 ∷ []) ∷ checks vs rooms)) (eq-eqb _ _ (h .0)) ∙ parted vs rooms
 
   stage : Option Refusal → Raising
@@ -62,12 +65,12 @@ module _ (vs bs w b m g u s : List ℕ) (h : (length vs ≡ length bs) × Blank 
       ]
 
   staged : raising (said o) (heldAt w′ b′ m′ g′) s′ ≡ stage (refusal vs bs rooms)
-  unfolding stagedIn stage treeOf
-  staged = q ∙ ap stage (sym refusal-is)
+  unfolding stagedIn stage treeOf roomsOf
+  staged = q .outcome ∙ ap stage (sym refusal-is)
 
-  pub build-refused : isMade (o .verdict) ≡ false → after (said o) (lentAt w′ b′ m′ g′ u s′) ≡ build vs bs rooms
-  unfolding build stage zeroed
-  build-refused f = go (which (refusal vs bs rooms))
+  pub build-refused : isMade (o .verdict) ≡ false → Builds vs bs lent (lentAt w′ b′ m′ g′ u s′) o
+  unfolding build stage zeroed roomsOf
+  build-refused f = record { outcome = go (which (refusal vs bs rooms)); counts = q .counts }
     where
       go : (refusal vs bs rooms ≡ none) ⊎ ((r : Refusal) × (refusal vs bs rooms ≡ some r)) → after (said o) (lentAt w′ b′ m′ g′ u s′) ≡ build vs bs rooms
       go (inl n) = absurd (not-tree o f (treeOf vs) (ap (λ (x : Raising). x .reply) (staged ∙ if-none _ _ n)))
@@ -86,24 +89,33 @@ module _ (vs bs w b m g u s : List ℕ) (h : (length vs ≡ length bs) × Blank 
         go (inr n) = absurd (made-tree o f (n .0) (ap (λ (x : Raising). x .reply) (staged ∙ if-some _ _ (n .0) (n .1))))
 
     pub build-labels : length bs ≤ length u
+    unfolding roomsOf
     build-labels = omega (arith, h .0, accepted-exactly vs bs rooms .0 none-refuses .label)
 
-    pub build-made : (u′ : List ℕ) → u′ ≡ paste u 0 bs (length bs) → after (said o) (lentAt w′ b′ m′ g′ u′ s′) ≡ build vs bs rooms
-    unfolding build stage lentOf
+    pub build-made : (u′ : List ℕ) → u′ ≡ paste u 0 bs (length bs) → Builds vs bs lent (lentAt w′ b′ m′ g′ u′ s′) o
+    unfolding build stage lentOf roomsOf
     build-made u′ c =
-        ap (λ (x : Raising). after (x .reply) (record { held = x .held; labels = u′; scratch = x .scr })) (staged ∙ if-none _ _ none-refuses)
-        ∙ ap (λ (y : List ℕ). after (is (treeOf vs)) (record { held = written rooms (tower 4 (string vs)); labels = y; scratch = replicate (length s) 0 }))
-        (labels-filled bs u u u′ build-labels (h .1 .labels) c)
-        ∙ sym (if-none _ _ none-refuses)
+        record {
+          outcome =
+              ap (λ (x : Raising). after (x .reply) (record { held = x .held; labels = u′; scratch = x .scr })) (staged ∙ if-none _ _ none-refuses)
+              ∙ ap (λ (y : List ℕ). after (is (treeOf vs)) (record { held = written rooms (tower 4 (string vs)); labels = y; scratch = replicate (length s) 0 }))
+              (labels-filled bs u u u′ build-labels (h .1 .labels) c)
+              ∙ sym (if-none _ _ none-refuses);
+          counts = q .counts;
+        }
 
 -- a build, once areas 0 to 4 are zeroed
 module _ (vs bs w b m g u s w′ b′ m′ g′ u′ : List ℕ) (z : Cleared w b m g u w′ b′ m′ g′ u′) where
   pub build-lengths : ¬ (length vs ≡ length bs) → (s′ : List ℕ) → s′ ≡ replicate (length s) 0 → (o : Built) → o ≡ refusedOf verdict.Lengths
-      → after (said o) (lentAt w′ b′ m′ g′ u′ s′) ≡ build vs bs (roomsFor w b m g u s)
-  unfolding build zeroed refusal firstOf check
+      → Builds vs bs (lentAt w b m g u s) (lentAt w′ b′ m′ g′ u′ s′) o
+  unfolding build zeroed refusal firstOf check roomsOf
   build-lengths h s′ zs o q =
-      (λ i. after (refused-says verdict.Lengths _ refl o q i) (lentAt (z .words i) (z .bytes i) (z .middle i) (z .large i) (z .labels i) (zs i)))
-      ∙ sym (if-some _ _ _ (ap (λ x. firstOf (check x 1 (0 ∷ []) ∷ checks vs (roomsFor w b m g u s))) (ne-eqb _ _ h)))
+      record {
+        outcome =
+            (λ i. after (refused-says verdict.Lengths _ refl o q i) (lentAt (z .words i) (z .bytes i) (z .middle i) (z .large i) (z .labels i) (zs i)))
+            ∙ sym (if-some _ _ _ (ap (λ x. firstOf (check x 1 (0 ∷ []) ∷ checks vs (roomsOf (lentAt w b m g u s)))) (ne-eqb _ _ h)));
+        counts = refused-counts verdict.Lengths o q;
+      }
 
   kept : (k : ℕ) (x : List ℕ) → x ≡ replicate k 0 → length x ≡ k
   kept k x e = ap length e ∙ length-replicate k 0
@@ -115,16 +127,16 @@ module _ (vs bs w b m g u s w′ b′ m′ g′ u′ : List ℕ) (z : Cleared w 
   build-ready e =
       (e, record { words = zeros (length w) w′ (z .words); bytes = zeros (length b) b′ (z .bytes); middle = zeros (length m) m′ (z .middle); large = zeros (length g) g′ (z .large); labels = zeros (length u) u′ (z .labels) })
 
-  pub build-whole : (x : After) → x ≡ build vs bs (roomsFor w′ b′ m′ g′ u′ s) → x ≡ build vs bs (roomsFor w b m g u s)
-  build-whole x q =
-      q
-      ∙ (λ i.
-      build vs bs
-      (record {
+  pub build-whole : (x : Lent) (o : Built) → Builds vs bs (lentAt w′ b′ m′ g′ u′ s) x o → Builds vs bs (lentAt w b m g u s) x o
+  unfolding roomsOf
+  build-whole x o q =
+      let same : roomsOf (lentAt w′ b′ m′ g′ u′ s) ≡ roomsOf (lentAt w b m g u s) = λ i.
+      record {
         words = kept (length w) w′ (z .words) i;
         bytes = kept (length b) b′ (z .bytes) i;
         middle = kept (length m) m′ (z .middle) i;
         large = kept (length g) g′ (z .large) i;
         labels = kept (length u) u′ (z .labels) i;
         scratch = length s;
-      }))
+      } in
+      record { outcome = q .outcome ∙ ap (build vs bs) same; counts = q .counts }

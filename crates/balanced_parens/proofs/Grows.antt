@@ -1,11 +1,10 @@
 -- The ways out of `raise_longer` and of `grow`.
-use mathlib.Core.Path.{_≡_, refl, sym, ap, ap₂, _∙_}
-use mathlib.Core.Bool.{Bool, true, false}
+use mathlib.Core.Path.{_≡_, refl, sym, ap, _∙_}
+use mathlib.Core.Bool.{true, false}
 use mathlib.Core.Logic.{_⊎_, inl, inr}
 use mathlib.Core.Option.{Option, none, some}
 use mathlib.Core.List.{List, [], _∷_, _++_}
-use Prim.Native.Nat.{ℕ, suc, _+_, _*_, _≤_, _<_}
-use native.Mathlib.Numerals.{add-one}
+use Prim.Native.Nat.{ℕ, suc, _+_, _≤_, _<_}
 use native.Mathlib.Omega.{arith}
 use lib.ListN.{length, getD, set, replicate, length-append}
 use borrow.Author.Tests.{leb-true}
@@ -13,10 +12,9 @@ use Rattle.meaning.specs.Answers.{Refusal, is, refused}
 use Rattle.meaning.specs.Bits.{bitsOf}
 use Rattle.meaning.specs.List.{greatest}
 use Rattle.meaning.specs.String.{string}
-use Rattle.meaning.specs.Family.{tower}
 use Rattle.meaning.specs.Areas.{Held, Rooms, written, counted}
 use Rattle.meaning.specs.Refusals.{check, checks, firstOf}
-use Rattle.meaning.specs.Build.{Lent, After, Tree, roomsOf}
+use Rattle.meaning.specs.Build.{Lent, Tree, roomsOf}
 use Rattle.meaning.specs.Growth.{levelsOf, grown, grownTower, firstBits, bitsIn, soundIn, sound, growRefusal, grow}
 use Rattle.meaning.proofs.If.{if-none, if-some}
 use Rattle.meaning.proofs.Accepted.{check-none, first-none}
@@ -31,14 +29,15 @@ use Rattle.longer.specs.declared.Longer.{Longer}
 use Rattle.longer.specs.declared.Longer.the-variants as longer
 use Rattle.longer.proofs.Growing.{Sound, sound-is}
 use Rattle.parentheses.specs.Writes.{heldAt}
-use Rattle.parentheses.specs.Raises.{Raising, raising, raiseIn, saidRaised, roomsAt, stringChecks}
+use Rattle.parentheses.specs.Raises.{Raising, raising, raiseIn, Raises, saidRaised, stringChecks}
 use Rattle.parentheses.specs.declared.levels.Raised.{Raised}
 use Rattle.balanced_parens.specs.Said.{refusalOf, isMade, said, refusedOf}
 use Rattle.balanced_parens.specs.Areas.{lentAt, after, stagedIn}
+use Rattle.balanced_parens.specs.Contract.{GrowsTo, Retold, Staged}
 use Rattle.balanced_parens.specs.declared.answer.Built.{Built}
 use Rattle.balanced_parens.specs.declared.answer.Verdict.{Verdict}
 use Rattle.balanced_parens.specs.declared.answer.Verdict.the-variants as verdict
-use Rattle.balanced_parens.proofs.Replies.{refused-says, made-tree, not-tree}
+use Rattle.balanced_parens.proofs.Replies.{refused-says, refused-counts, made-tree, not-tree}
 use Rattle.balanced_parens.proofs.Stages.{placed-none, placed-some, Listed, listed, stage-refused, list-raised}
 use Rattle.balanced_parens.proofs.Builds.{first-append, which}
 
@@ -66,43 +65,51 @@ module _ (ws : List ℕ) (n m v k : ℕ) (p : Longer) (s : List ℕ) (q : placin
   pub longer-few : n + 1 ≤ greatest
   longer-few = omega (arith, longer-listed ws n m v k (placed .0) .few, longer-count ws n m v k (placed .0))
 
-  pub longer-raised : (a : Held) (labels : ℕ) (r : Raised) (b : Held) (t : List ℕ) → raising (saidRaised r) b t ≡ raiseIn s (n + 1) a labels
-      → (o : Built) → said o ≡ saidRaised r → raising (said o) b t ≡ stagedIn (firstOf (longerChecks ws n m v k)) (grown (bitsOf ws m) v) (suc n) a labels k
+  pub longer-raised : (a : Held) (labels : ℕ) (r : Raised) (b : Held) (t : List ℕ) → Raises s (n + 1) a labels b t r → (o : Built) → Retold r o
+      → Staged (stagedIn (firstOf (longerChecks ws n m v k)) (grown (bitsOf ws m) v) (suc n) a labels k) b t o
   unfolding grown
   longer-raised a labels r b t f o g =
       let l : length (longest ws m v) ≡ suc n = longer-count ws n m v k (placed .0) in
       let u : n + 2 ≡ length (longest ws m v) + 1 = omega (arith, l) in
       let w : n + 1 ≡ length (longest ws m v) = omega (arith, l) in
-      ap (λ x. raising x b t) g
-      ∙ list-raised (firstOf (longerChecks ws n m v k)) (longest ws m v) a labels k (placed .0) (longer-listed ws n m v k (placed .0)) s
-      (placed .1 ∙ ap (λ x. holding x k (string (longest ws m v))) u)
-      (raising (saidRaised r) b t)
-      (f ∙ ap (λ x. raiseIn s x a labels) w)
-      ∙ ap (λ x. stagedIn (firstOf (longerChecks ws n m v k)) (string (longest ws m v)) x a labels k) l
+      record {
+        outcome =
+            ap (λ x. raising x b t) (g .reply)
+            ∙ list-raised (firstOf (longerChecks ws n m v k)) (longest ws m v) a labels k (placed .0) (longer-listed ws n m v k (placed .0)) s
+            (placed .1 ∙ ap (λ x. holding x k (string (longest ws m v))) u)
+            (raising (saidRaised r) b t)
+            (f .outcome ∙ ap (λ x. raiseIn s x a labels) w)
+            ∙ ap (λ x. stagedIn (firstOf (longerChecks ws n m v k)) (string (longest ws m v)) x a labels k) l;
+        counts = g .counts;
+      }
 
 module _ (ws : List ℕ) (n m v k : ℕ) (a : Held) (labels : ℕ) (p : Longer) (s : List ℕ) (q : placing (place.said p) s ≡ longerIn ws n m v k) where
   refuses : (x : Verdict) (r : Refusal) → refusalOf x ≡ some r → place.said p ≡ some r → (o : Built) → o ≡ refusedOf x
-      → raising (said o) a s ≡ stagedIn (firstOf (longerChecks ws n m v k)) (grown (bitsOf ws m) v) (suc n) a labels k
+      → Staged (stagedIn (firstOf (longerChecks ws n m v k)) (grown (bitsOf ws m) v) (suc n) a labels k) a s o
   unfolding longerIn
   refuses x r e f o g =
       let u = placed-some (firstOf (longerChecks ws n m v k)) r _ _ s (ap (λ y. placing y s) (sym f) ∙ q) in
-      ap (λ y. raising y a s) (refused-says x r e o g)
-      ∙ stage-refused (firstOf (longerChecks ws n m v k)) (grown (bitsOf ws m) v) (suc n) a labels k r (u .0) s (u .1)
+      record {
+        outcome =
+            ap (λ y. raising y a s) (refused-says x r e o g)
+            ∙ stage-refused (firstOf (longerChecks ws n m v k)) (grown (bitsOf ws m) v) (suc n) a labels k r (u .0) s (u .1);
+        counts = refused-counts x o g;
+      }
 
   pub longer-broken : p ≡ longer.Broken → (o : Built) → o ≡ refusedOf verdict.Broken
-      → raising (said o) a s ≡ stagedIn (firstOf (longerChecks ws n m v k)) (grown (bitsOf ws m) v) (suc n) a labels k
+      → Staged (stagedIn (firstOf (longerChecks ws n m v k)) (grown (bitsOf ws m) v) (suc n) a labels k) a s o
   longer-broken e o g = refuses verdict.Broken _ refl (ap place.said e) o g
 
   pub longer-many : (i : ℕ) → p ≡ longer.Many i → (o : Built) → o ≡ refusedOf (verdict.Many i)
-      → raising (said o) a s ≡ stagedIn (firstOf (longerChecks ws n m v k)) (grown (bitsOf ws m) v) (suc n) a labels k
+      → Staged (stagedIn (firstOf (longerChecks ws n m v k)) (grown (bitsOf ws m) v) (suc n) a labels k) a s o
   longer-many i e o g = refuses (verdict.Many i) _ refl (ap place.said e) o g
 
   pub longer-level : (i : ℕ) → p ≡ longer.Level i → (o : Built) → o ≡ refusedOf (verdict.Level i)
-      → raising (said o) a s ≡ stagedIn (firstOf (longerChecks ws n m v k)) (grown (bitsOf ws m) v) (suc n) a labels k
+      → Staged (stagedIn (firstOf (longerChecks ws n m v k)) (grown (bitsOf ws m) v) (suc n) a labels k) a s o
   longer-level i e o g = refuses (verdict.Level i) _ refl (ap place.said e) o g
 
   pub longer-room : p ≡ longer.Room → (o : Built) → o ≡ refusedOf (verdict.Room 5)
-      → raising (said o) a s ≡ stagedIn (firstOf (longerChecks ws n m v k)) (grown (bitsOf ws m) v) (suc n) a labels k
+      → Staged (stagedIn (firstOf (longerChecks ws n m v k)) (grown (bitsOf ws m) v) (suc n) a labels k) a s o
   longer-room e o g = refuses (verdict.Room 5) _ refl (ap place.said e) o g
 
 -- growth's checks, parted where the longer string stands
@@ -126,8 +133,9 @@ module _ (ws : List ℕ) (n m v : ℕ) (rooms : Rooms) where
 
 -- growth
 module _ (w b m g u s : List ℕ) (c : Counts) (v : ℕ) (o : Built) (w′ b′ m′ g′ s′ : List ℕ)
-    (q : raising (said o) (heldAt w′ b′ m′ g′) s′
-    ≡ stagedIn (firstOf (longerChecks w (c .nodes) (getD (c .bits) 0 0) v (length s))) (grown (bitsOf w (getD (c .bits) 0 0)) v) (suc (c .nodes)) (heldAt w b m g) (length u) (length s)) where
+    (q : Staged
+    (stagedIn (firstOf (longerChecks w (c .nodes) (getD (c .bits) 0 0) v (length s))) (grown (bitsOf w (getD (c .bits) 0 0)) v) (suc (c .nodes)) (heldAt w b m g) (length u) (length s))
+    (heldAt w′ b′ m′ g′) s′ o) where
   abbrev lent : Lent
   lent = lentAt w b m g u s
 
@@ -144,11 +152,11 @@ module _ (w b m g u s : List ℕ) (c : Counts) (v : ℕ) (o : Built) (w′ b′ 
   staged : raising (said o) (heldAt w′ b′ m′ g′) s′ ≡ stage (growRefusal (treeIn c) lent v)
   unfolding stagedIn stage new grownTower growRefusal sound roomsOf treeIn firstBits
   staged =
-      q ∙ ap stage (sym (grow-parted w (c .nodes) (bitsIn (treeIn c)) v (roomsOf lent)))
+      q .outcome ∙ ap stage (sym (grow-parted w (c .nodes) (bitsIn (treeIn c)) v (roomsOf lent)))
 
-  pub grow-refused : (x : ℕ) → isMade (o .verdict) ≡ false → after (said o) (lentAt w′ b′ m′ g′ u s′) ≡ grow (treeIn c) lent v x
+  pub grow-refused : (x : ℕ) → isMade (o .verdict) ≡ false → GrowsTo c v x lent (lentAt w′ b′ m′ g′ u s′) o
   unfolding grow stage
-  grow-refused x f = go (which (growRefusal (treeIn c) lent v))
+  grow-refused x f = record { outcome = go (which (growRefusal (treeIn c) lent v)); counts = q .counts }
     where
       go : (growRefusal (treeIn c) lent v ≡ none) ⊎ ((r : Refusal) × (growRefusal (treeIn c) lent v ≡ some r))
           → after (said o) (lentAt w′ b′ m′ g′ u s′) ≡ grow (treeIn c) lent v x
@@ -184,10 +192,14 @@ module _ (w b m g u s : List ℕ) (c : Counts) (v : ℕ) (o : Built) (w′ b′ 
           longer-count w (c .nodes) (bitsIn (treeIn c)) v (length s) (a .0),
         )
 
-    pub grow-made : (x : ℕ) (u′ : List ℕ) → u′ ≡ set u (c .nodes) x → after (said o) (lentAt w′ b′ m′ g′ u′ s′) ≡ grow (treeIn c) lent v x
+    pub grow-made : (x : ℕ) (u′ : List ℕ) → u′ ≡ set u (c .nodes) x → GrowsTo c v x lent (lentAt w′ b′ m′ g′ u′ s′) o
     unfolding grow stage new treeIn
     grow-made x u′ l =
-        ap (λ (y : Raising). after (y .reply) (record { held = y .held; labels = u′; scratch = y .scr })) (staged ∙ if-none _ _ none-refuses)
-        ∙ ap (λ (y : List ℕ). after (is new) (record { held = written (roomsOf lent) (grownTower w (bitsIn (treeIn c)) v); labels = y; scratch = replicate (length s) 0 }))
-        l
-        ∙ sym (if-none _ _ none-refuses)
+        record {
+          outcome =
+              ap (λ (y : Raising). after (y .reply) (record { held = y .held; labels = u′; scratch = y .scr })) (staged ∙ if-none _ _ none-refuses)
+              ∙ ap (λ (y : List ℕ). after (is new) (record { held = written (roomsOf lent) (grownTower w (bitsIn (treeIn c)) v); labels = y; scratch = replicate (length s) 0 }))
+              l
+              ∙ sym (if-none _ _ none-refuses);
+          counts = q .counts;
+        }

@@ -4,3 +4,7 @@ pub mod Lists
 pub mod Labels
 pub mod Builds
 pub mod Grows
+pub mod Agree
+pub mod Outcome
+pub mod Demands
+pub mod AnyGrowth

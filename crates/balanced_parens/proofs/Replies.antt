@@ -1,19 +1,21 @@
 -- The ways out of `answer`, and what an answer says of its verdict.
 use mathlib.Core.Path.{_≡_, refl, sym, ap, _∙_}
-use mathlib.Core.Bool.{Bool, true, false}
-use mathlib.Core.Option.{Option, none, some}
-use mathlib.Core.List.{List, [], _∷_}
+use mathlib.Core.Bool.{true, false}
+use mathlib.Core.Option.{none, some}
 use Prim.Native.Nat.{ℕ}
 use native.Mathlib.Omega.{arith}
 use Rattle.meaning.specs.Answers.{Refusal, Answer, is, refused}
 use Rattle.meaning.specs.Build.{Tree}
 use Rattle.meaning.proofs.If.{clash, if-none, if-some}
-use Rattle.record.specs.Record.{treeIn}
+use lib.ListN.{length}
+use Rattle.record.specs.Record.{treeIn, noCounts, replyOf}
+use Rattle.record.proofs.Agree.{none-counted, tree-counted}
 use Rattle.parentheses.specs.Plans as plans
 use Rattle.parentheses.specs.Raises.{saidRaised}
 use Rattle.parentheses.specs.declared.levels.Raised.{Raised}
 use Rattle.parentheses.specs.declared.levels.Verdict.the-variants as levels
-use Rattle.balanced_parens.specs.Said.{refusalOf, isMade, replyOf, said, noCounts, refusedOf}
+use Rattle.balanced_parens.specs.Said.{refusalOf, isMade, said, refusedOf}
+use Rattle.balanced_parens.specs.Contract.{CountsIn, Retold}
 use Rattle.balanced_parens.specs.declared.answer.Built.{Built}
 use Rattle.balanced_parens.specs.declared.answer.Verdict.{Verdict}
 use Rattle.balanced_parens.specs.declared.answer.Verdict.the-variants as verdict
@@ -22,29 +24,37 @@ use Rattle.balanced_parens.specs.declared.answer.Verdict.the-variants as
 pub refused-says : (v : Verdict) (x : Refusal) → refusalOf v ≡ some x → (b : Built) → b ≡ refusedOf v → said b ≡ refused x
 refused-says v x e b q = ap said q ∙ ap (λ o. replyOf o noCounts) e
 
+pub refused-counts : (v : Verdict) (b : Built) → b ≡ refusedOf v → CountsIn b
+refused-counts v b q = none-counted (refusalOf (b .verdict)) (b .counts) (ap (λ (x : Built). x .counts) q)
+
 module _ (r : Raised) where
-  pub answer-made : r .verdict ≡ levels.Made → said (record { verdict = verdict.Made; counts = r .counts }) ≡ saidRaised r
+  pub answer-made : r .verdict ≡ levels.Made → length (r .counts .bits) ≡ 5 → length (r .counts .bytes) ≡ 4 → length (r .counts .middles) ≡ 4
+      → length (r .counts .larges) ≡ 4 → Retold r (record { verdict = verdict.Made; counts = r .counts })
   unfolding saidRaised
-  answer-made e = sym (if-none _ _ (ap plans.said e))
+  answer-made e i j k l =
+      record {
+        reply = sym (if-none _ _ (ap plans.said e));
+        counts = tree-counted none (r .counts) refl (record { bits = i; bytes = j; middles = k; larges = l });
+      }
 
-  refuses : (v : Verdict) (x : Refusal) → refusalOf v ≡ some x → plans.said (r .verdict) ≡ some x → (b : Built) → b ≡ refusedOf v → said b ≡ saidRaised r
+  refuses : (v : Verdict) (x : Refusal) → refusalOf v ≡ some x → plans.said (r .verdict) ≡ some x → (b : Built) → b ≡ refusedOf v → Retold r b
   unfolding saidRaised
-  refuses v x e f b q = refused-says v x e b q ∙ sym (if-some _ _ x f)
+  refuses v x e f b q = record { reply = refused-says v x e b q ∙ sym (if-some _ _ x f); counts = refused-counts v b q }
 
-  pub answer-full : (l n : ℕ) → r .verdict ≡ levels.Full l n → (b : Built) → b ≡ refusedOf (verdict.Full l n) → said b ≡ saidRaised r
+  pub answer-full : (l n : ℕ) → r .verdict ≡ levels.Full l n → (b : Built) → b ≡ refusedOf (verdict.Full l n) → Retold r b
   answer-full l n e b q = refuses (verdict.Full l n) _ refl (ap plans.said e) b q
 
-  pub answer-deep : r .verdict ≡ levels.Deep → (b : Built) → b ≡ refusedOf verdict.Deep → said b ≡ saidRaised r
+  pub answer-deep : r .verdict ≡ levels.Deep → (b : Built) → b ≡ refusedOf verdict.Deep → Retold r b
   answer-deep e b q = refuses verdict.Deep _ refl (ap plans.said e) b q
 
-  pub answer-room : (a : ℕ) → r .verdict ≡ levels.Room a → (b : Built) → b ≡ refusedOf (verdict.Room a) → said b ≡ saidRaised r
+  pub answer-room : (a : ℕ) → r .verdict ≡ levels.Room a → (b : Built) → b ≡ refusedOf (verdict.Room a) → Retold r b
   answer-room a e b q = refuses (verdict.Room a) _ refl (ap plans.said e) b q
 
-  pub answer-broken : r .verdict ≡ levels.Broken → (b : Built) → b ≡ refusedOf verdict.Broken → said b ≡ saidRaised r
+  pub answer-broken : r .verdict ≡ levels.Broken → (b : Built) → b ≡ refusedOf verdict.Broken → Retold r b
   answer-broken e b q = refuses verdict.Broken _ refl (ap plans.said e) b q
 
 -- a verdict is made exactly if it has no refusal
-made-none : (v : Verdict) → isMade v ≡ true → refusalOf v ≡ none
+pub made-none : (v : Verdict) → isMade v ≡ true → refusalOf v ≡ none
 made-none verdict.Made e = refl
 made-none verdict.Lengths e = absurd (clash e refl)
 made-none (verdict.Many n) e = absurd (clash e refl)
@@ -54,7 +64,7 @@ made-none (verdict.Full v b) e = absurd (clash e refl)
 made-none verdict.Deep e = absurd (clash e refl)
 made-none verdict.Broken e = absurd (clash e refl)
 
-none-made : (v : Verdict) → isMade v ≡ false → (x : Refusal) × (refusalOf v ≡ some x)
+pub none-made : (v : Verdict) → isMade v ≡ false → (x : Refusal) × (refusalOf v ≡ some x)
 none-made verdict.Made e = absurd (clash refl e)
 none-made verdict.Lengths e = (_, refl)
 none-made (verdict.Many n) e = (_, refl)

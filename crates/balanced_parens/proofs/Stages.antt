@@ -1,15 +1,14 @@
 -- A string that stands in scratch, or an earlier refusal: what the level builder then leaves.
 use mathlib.Core.Path.{_≡_, refl, sym, ap, ap₂, _∙_}
-use mathlib.Core.Bool.{Bool, true, false}
-use mathlib.Core.Logic.{_⊎_, inl, inr}
+use mathlib.Core.Bool.{Bool, true}
 use mathlib.Core.Option.{Option, none, some}
-use mathlib.Core.List.{List, [], _∷_, _++_}
-use Prim.Native.Nat.{ℕ, _+_, _*_, _-_, _≤_}
+use mathlib.Core.List.{List, _∷_}
+use Prim.Native.Nat.{ℕ, _+_, _*_, _≤_}
 use native.Mathlib.Omega.{arith}
 use lib.ListN.{length, replicate}
 use borrow.Author.Tests.{le-leb, leb-true}
-use Rattle.meaning.specs.Answers.{Refusal, is, refused, broken}
-use Rattle.meaning.specs.List.{Rule, greatest, offending}
+use Rattle.meaning.specs.Answers.{Refusal, is, refused}
+use Rattle.meaning.specs.List.{Rule, greatest}
 use Rattle.meaning.specs.String.{string}
 use Rattle.meaning.specs.Family.{tower}
 use Rattle.meaning.specs.Areas.{Held, written, counted}

@@ -2,25 +2,20 @@
 use mathlib.Core.Path.{_≡_}
 use mathlib.Core.Bool.{Bool}
 use mathlib.Core.Option.{Option, none, some}
-use mathlib.Core.List.{List, [], _∷_}
+use mathlib.Core.List.{List, _∷_}
 use Prim.Native.Nat.{ℕ}
 use lib.ListN.{length, replicate}
 use Rattle.meaning.specs.Answers.{Refusal, Answer, is, refused}
 use Rattle.meaning.specs.Family.{tower}
-use Rattle.meaning.specs.Areas.{Rooms, Held, written, counted}
+use Rattle.meaning.specs.Areas.{Held, written, counted}
 use Rattle.meaning.specs.Refusals.{firstOf}
-use Rattle.meaning.specs.Build.{Lent, Tree, After, roomsOf}
+use Rattle.meaning.specs.Build.{Lent, Tree, After}
 use Rattle.parentheses.specs.Writes.{heldAt}
 use Rattle.parentheses.specs.Raises.{Raising, raising, roomsAt, stringChecks}
 
 -- the areas in 01's order
 abbrev pub lentAt : List ℕ → List ℕ → List ℕ → List ℕ → List ℕ → List ℕ → Lent
 lentAt w b m g u s = record { held = heldAt w b m g; labels = u; scratch = s }
-
--- their lengths
-abbrev pub roomsFor : List ℕ → List ℕ → List ℕ → List ℕ → List ℕ → List ℕ → Rooms
-roomsFor w b m g u s =
-    record { words = length w; bytes = length b; middle = length m; large = length g; labels = length u; scratch = length s }
 
 -- an answer with the areas as they are left
 abbrev pub after : Answer Tree → Lent → After

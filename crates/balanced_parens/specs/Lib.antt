@@ -1,2 +1,4 @@
 pub mod Said
 pub mod Areas
+pub mod Contract
+pub mod Demands

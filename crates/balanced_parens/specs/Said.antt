@@ -1,14 +1,11 @@
 -- 01's number and values for each answer of build and growth.
 use mathlib.Core.Bool.{Bool, true, false}
-use mathlib.Core.Option.{Option, none, some}
-use mathlib.Core.List.{List, [], _∷_}
-use Prim.Native.Nat.{ℕ}
-use lib.ListN.{replicate}
-use Rattle.meaning.specs.Answers.{Refusal, Answer, is, refused}
+use mathlib.Core.Option.{Option, none}
+use mathlib.Core.List.{[], _∷_}
+use Rattle.meaning.specs.Answers.{Refusal, Answer}
 use Rattle.meaning.specs.Refusals.{refuse}
 use Rattle.meaning.specs.Build.{Tree}
-use Rattle.record.specs.Record.{treeIn}
-use Rattle.record.specs.declared.Counts.{Counts}
+use Rattle.record.specs.Record.{noCounts, replyOf}
 use Rattle.balanced_parens.specs.declared.answer.Verdict.{Verdict}
 use Rattle.balanced_parens.specs.declared.answer.Verdict.the-variants as verdict
 use Rattle.balanced_parens.specs.declared.answer.Built.{Built}
@@ -35,16 +32,9 @@ isMade verdict.Deep = false
 isMade verdict.Broken = false
 
 -- the tree, or the refusal
-abbrev pub replyOf : Option Refusal → Counts → Answer Tree
-replyOf none c = is (treeIn c)
-replyOf (some r) c = refused r
-
 abbrev pub said : Built → Answer Tree
 said b = replyOf (refusalOf (b .verdict)) (b .counts)
 
--- counts of nothing
-abbrev pub noCounts : Counts
-noCounts = record { nodes = 0; bits = replicate 5 0; bytes = replicate 4 0; middles = replicate 4 0; larges = replicate 4 0 }
-
+-- a refusal, with counts of nothing
 abbrev pub refusedOf : Verdict → Built
 refusedOf v = record { verdict = v; counts = noCounts }

@@ -1,7 +1,7 @@
 // What build and growth answer.
 ghost use mathlib.Core.Path.{_≡_};
-ghost use Rattle.parentheses.specs.Raises.{saidRaised};
-ghost use Rattle.balanced_parens.specs.Said.{said, isMade, refusedOf};
+ghost use Rattle.balanced_parens.specs.Said.{isMade, refusedOf};
+ghost use Rattle.balanced_parens.specs.Contract.{Retold};
 use parentheses::levels as levels;
 use record::Counts;
 
@@ -54,7 +54,7 @@ pub fn refuse(v: Verdict) -> Built
 
 // The level builder's answer.
 pub fn answer(r: levels::Raised) -> Built
-    ensures { λ b. ⌜ said b ≡ saidRaised r ⌝ }
+    ensures { λ b. ⌜ Retold r b ⌝ }
 {
     let v = r.verdict;
     match v {

@@ -1,16 +1,14 @@
 // Build: a tree from a list of levels and one of labels.
 ghost use mathlib.Core.Path.{_≡_};
 ghost use Prim.Native.Nat.{_≤_};
-ghost use lib.ListN.{length, replicate};
+ghost use lib.ListN.{length};
 ghost use lib.Seq.{paste};
-ghost use Rattle.meaning.specs.Build.{build};
 ghost use Rattle.meaning.specs.String.{string};
 ghost use Rattle.meaning.specs.Refusals.{firstOf};
 ghost use Rattle.pioneers.specs.Placed.{listChecks};
-ghost use Rattle.parentheses.specs.Raises.{raising};
 ghost use Rattle.parentheses.specs.Writes.{heldAt};
-ghost use Rattle.balanced_parens.specs.Said.{said};
-ghost use Rattle.balanced_parens.specs.Areas.{after, lentAt, roomsFor, stagedIn, Cleared, Blank};
+ghost use Rattle.balanced_parens.specs.Areas.{lentAt, stagedIn, Cleared, Blank};
+ghost use Rattle.balanced_parens.specs.Contract.{Builds, Staged};
 use crate::answer::Built;
 use crate::answer::Verdict;
 use crate::answer::answer;
@@ -35,7 +33,7 @@ fn raise_list(
     labels: usize,
     scratch: &mut [u64],
 ) -> Built
-    ensures { λ r. ⌜ raising (said r) (heldAt (now (words .exit)) (now (bytes .exit)) (now (middles .exit)) (now (larges .exit))) (now (scratch .exit)) ≡ stagedIn (firstOf (listChecks (now (levels .entry)) (length (now (scratch .entry))))) (string (now (levels .entry))) (length (now (levels .entry))) (heldAt (now (words .entry)) (now (bytes .entry)) (now (middles .entry)) (now (larges .entry))) labels (length (now (scratch .entry))) ⌝ }
+    ensures { λ r. ⌜ Staged (stagedIn (firstOf (listChecks (now (levels .entry)) (length (now (scratch .entry))))) (string (now (levels .entry))) (length (now (levels .entry))) (heldAt (now (words .entry)) (now (bytes .entry)) (now (middles .entry)) (now (larges .entry))) labels (length (now (scratch .entry)))) (heldAt (now (words .exit)) (now (bytes .exit)) (now (middles .exit)) (now (larges .exit))) (now (scratch .exit)) r ⌝ }
 {
     let p = place(levels, scratch);
     match p {
@@ -90,7 +88,7 @@ fn build_list(
     scratch: &mut [u64],
 ) -> Built
     requires { ⌜ (length (now levels) ≡ length (now labels)) × Blank (now words) (now bytes) (now middles) (now larges) (now «label_area») ⌝ }
-    ensures { λ r. ⌜ after (said r) (lentAt (now (words .exit)) (now (bytes .exit)) (now (middles .exit)) (now (larges .exit)) (now («label_area» .exit)) (now (scratch .exit))) ≡ build (now (levels .entry)) (now (labels .entry)) (roomsFor (now (words .entry)) (now (bytes .entry)) (now (middles .entry)) (now (larges .entry)) (now («label_area» .entry)) (now (scratch .entry))) ⌝ }
+    ensures { λ r. ⌜ Builds (now (levels .entry)) (now (labels .entry)) (lentAt (now (words .entry)) (now (bytes .entry)) (now (middles .entry)) (now (larges .entry)) (now («label_area» .entry)) (now (scratch .entry))) (lentAt (now (words .exit)) (now (bytes .exit)) (now (middles .exit)) (now (larges .exit)) (now («label_area» .exit)) (now (scratch .exit))) r ⌝ }
 {
     let b = raise_list(
         levels,
@@ -120,7 +118,7 @@ pub fn build(
     label_area: &mut [u32],
     scratch: &mut [u64],
 ) -> Built
-    ensures { λ r. ⌜ after (said r) (lentAt (now (words .exit)) (now (bytes .exit)) (now (middles .exit)) (now (larges .exit)) (now («label_area» .exit)) (now (scratch .exit))) ≡ build (now (levels .entry)) (now (labels .entry)) (roomsFor (now (words .entry)) (now (bytes .entry)) (now (middles .entry)) (now (larges .entry)) (now («label_area» .entry)) (now (scratch .entry))) ⌝ }
+    ensures { λ r. ⌜ Builds (now (levels .entry)) (now (labels .entry)) (lentAt (now (words .entry)) (now (bytes .entry)) (now (middles .entry)) (now (larges .entry)) (now («label_area» .entry)) (now (scratch .entry))) (lentAt (now (words .exit)) (now (bytes .exit)) (now (middles .exit)) (now (larges .exit)) (now («label_area» .exit)) (now (scratch .exit))) r ⌝ }
 {
     zero_areas(words, bytes, middles, larges, label_area);
     if levels.len() != labels.len() {

@@ -1,16 +1,13 @@
 // Growth: a node at the list's end, from the bit string alone.
-ghost use mathlib.Core.Path.{_≡_};
 ghost use Prim.Native.Nat.{suc};
 ghost use lib.ListN.{length};
 ghost use Rattle.meaning.specs.Bits.{bitsOf};
-ghost use Rattle.meaning.specs.Growth.{grown, grow};
+ghost use Rattle.meaning.specs.Growth.{grown};
 ghost use Rattle.meaning.specs.Refusals.{firstOf};
-ghost use Rattle.record.specs.Record.{treeIn};
 ghost use Rattle.longer.specs.Longer.{longerChecks};
-ghost use Rattle.parentheses.specs.Raises.{raising};
 ghost use Rattle.parentheses.specs.Writes.{heldAt};
-ghost use Rattle.balanced_parens.specs.Said.{said};
-ghost use Rattle.balanced_parens.specs.Areas.{after, lentAt, stagedIn};
+ghost use Rattle.balanced_parens.specs.Areas.{lentAt, stagedIn};
+ghost use Rattle.balanced_parens.specs.Contract.{GrowsTo, Staged};
 use crate::answer::Built;
 use crate::answer::Verdict;
 use crate::answer::answer;
@@ -33,7 +30,7 @@ fn raise_longer(
     m: usize,
     level: u32,
 ) -> Built
-    ensures { λ r. ⌜ raising (said r) (heldAt (now (words .exit)) (now (bytes .exit)) (now (middles .exit)) (now (larges .exit))) (now (scratch .exit)) ≡ stagedIn (firstOf (longerChecks (now (words .entry)) n m level (length (now (scratch .entry))))) (grown (bitsOf (now (words .entry)) m) level) (suc n) (heldAt (now (words .entry)) (now (bytes .entry)) (now (middles .entry)) (now (larges .entry))) labels (length (now (scratch .entry))) ⌝ }
+    ensures { λ r. ⌜ Staged (stagedIn (firstOf (longerChecks (now (words .entry)) n m level (length (now (scratch .entry))))) (grown (bitsOf (now (words .entry)) m) level) (suc n) (heldAt (now (words .entry)) (now (bytes .entry)) (now (middles .entry)) (now (larges .entry))) labels (length (now (scratch .entry)))) (heldAt (now (words .exit)) (now (bytes .exit)) (now (middles .exit)) (now (larges .exit))) (now (scratch .exit)) r ⌝ }
 {
     let p = place_longer(words, n, m, level, scratch);
     match p {
@@ -60,7 +57,7 @@ pub fn grow(
     level: u32,
     label: u32,
 ) -> Built
-    ensures { λ r. ⌜ after (said r) (lentAt (now (words .exit)) (now (bytes .exit)) (now (middles .exit)) (now (larges .exit)) (now («label_area» .exit)) (now (scratch .exit))) ≡ grow (treeIn c) (lentAt (now (words .entry)) (now (bytes .entry)) (now (middles .entry)) (now (larges .entry)) (now («label_area» .entry)) (now (scratch .entry))) level label ⌝ }
+    ensures { λ r. ⌜ GrowsTo c level label (lentAt (now (words .entry)) (now (bytes .entry)) (now (middles .entry)) (now (larges .entry)) (now («label_area» .entry)) (now (scratch .entry))) (lentAt (now (words .exit)) (now (bytes .exit)) (now (middles .exit)) (now (larges .exit)) (now («label_area» .exit)) (now (scratch .exit))) r ⌝ }
 {
     let n = c.nodes;
     let m = c.bits[0];

@@ -15,7 +15,7 @@ use Rattle.listing.specs.Said.{Puts, putBy, putOf}
 use Rattle.listing.specs.declared.Put.{Put}
 use Rattle.listing.specs.declared.Put.the-variants as put
 
-sets-append : (s : List ℕ) (a : ℕ) (xs ys : List ℕ) → sets s a (xs ++ ys) ≡ sets (sets s a xs) (a + length xs) ys
+pub sets-append : (s : List ℕ) (a : ℕ) (xs ys : List ℕ) → sets s a (xs ++ ys) ≡ sets (sets s a xs) (a + length xs) ys
 sets-append s a [] ys = let e : a ≡ a + 0 = omega arith in ap (λ (j : ℕ). sets s j ys) e
 sets-append s a (x ∷ xs) ys =
     let e : suc a + length xs ≡ a + suc (length xs) = omega arith in

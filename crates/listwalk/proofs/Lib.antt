@@ -1,1 +1,4 @@
-pub mod Told
+pub mod Column
+pub mod Verdict
+pub mod Build
+pub mod Answered

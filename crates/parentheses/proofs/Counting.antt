@@ -3,14 +3,14 @@ use mathlib.Core.Path.{_≡_, refl, sym, ap, ap₂, _∙_, subst}
 use mathlib.Core.Bool.{Bool, true, false}
 use mathlib.Core.Logic.{_⊎_, inl, inr}
 use mathlib.Core.List.{List, [], _∷_, _++_, map}
-use Prim.Native.Nat.{ℕ, zero, suc, _+_, _-_, _*_, _/_, _≤_, _<_}
+use Prim.Native.Nat.{ℕ, zero, suc, _+_, _-_, _*_, _/_, _≤_}
 use native.Mathlib.Nat.{not-suc-le-zero, le-of-suc-le-suc}
 use native.Mathlib.Omega.{arith}
 use lib.Dec.{leb}
 use lib.ListN.{length, getD, take, replicate, length-append}
-use Rattle.meaning.specs.Bits.{wordsOf, wordCount}
+use Rattle.meaning.specs.Bits.{wordsOf}
 use Rattle.meaning.specs.Pioneers.{flags, pioneerString}
-use Rattle.meaning.specs.Dictionary.{Dict, dictOf, dictWith, blockCount, middlePos, middleRank, largePos, largeRank}
+use Rattle.meaning.specs.Dictionary.{dictOf, dictWith, blockCount, middlePos, middleRank, largePos, largeRank}
 use Rattle.meaning.specs.Family.{Level, noDict, tower}
 use Rattle.meaning.specs.Areas as areas
 use Rattle.meaning.specs.Areas.{joined, areaWords, areaBytes, areaMiddle, areaLarge, countsOf, noCounts, counted}
@@ -26,7 +26,7 @@ use Rattle.record.specs.declared.Counts.{Counts}
 use Rattle.sparse_one_nnd.specs.Said.{entriesIn}
 use Rattle.sparse_one_nnd.specs.declared.SparseOneNnd.{SparseOneNnd}
 use Rattle.parentheses.specs.Plans.{aloneOf, shifted, sizesOf, added, Small, SizesAre}
-use Rattle.parentheses.specs.declared.levels.Sizes.{Sizes}
+use Rattle.parentheses.specs.declared.plans.Sizes.{Sizes}
 
 -- the two forms of a level, and the towers of them
 abbrev pub single : List Bool → Level

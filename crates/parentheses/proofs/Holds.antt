@@ -1,16 +1,16 @@
 -- Scratch that holds a string, and a string with its flags: what its parts are, and what marking and compacting leave of it.
-use mathlib.Core.Path.{_≡_, refl, sym, ap, ap₂, _∙_, subst}
-use mathlib.Core.Bool.{Bool, true, false}
-use mathlib.Core.List.{List, [], _∷_, _++_, append-assoc, append-nil}
-use Prim.Native.Nat.{ℕ, _+_, _-_, _*_, _/_, _≤_, _<_}
+use mathlib.Core.Path.{_≡_, sym, ap, ap₂, _∙_}
+use mathlib.Core.Bool.{Bool, true}
+use mathlib.Core.List.{List, [], _++_, append-assoc, append-nil}
+use Prim.Native.Nat.{ℕ, _+_, _-_, _*_, _≤_, _<_}
 use native.Mathlib.Omega.{arith}
 use lib.ListN.{length, getD, take, drop, replicate, length-append, length-replicate, List·getD-append}
-use lib.Seq.{slice, length-slice, take-at, drop-at, take-append-le, getD-drop, getD-take, getD-append-add, drop-append-le}
-use borrow.Author.Tests.{le-leb, leb-true}
+use lib.Seq.{slice, length-slice, take-at, drop-at, getD-drop, getD-take, getD-append-add}
+use borrow.Author.Tests.{le-leb}
 use Rattle.meaning.specs.Bits.{bitsOf, pack}
 use Rattle.meaning.specs.Pioneers.{flags, keep, pioneerString}
 use Rattle.meaning.specs.Growth.{OneRoot, oneRoot}
-use Rattle.meaning.proofs.If.{if-true, and-true, both}
+use Rattle.meaning.proofs.If.{if-true, and-true}
 use Rattle.meaning.proofs.Pack.{length-pack, pack-holds}
 use Rattle.meaning.proofs.Tab.{opens-closes}
 use Rattle.meaning.proofs.Root.{up-root}

@@ -3,7 +3,6 @@ use mathlib.Core.Path.{_≡_, refl, sym, ap, ap₂, _∙_, subst}
 use mathlib.Core.Bool.{Bool, true, false, _&&_}
 use mathlib.Core.Option.{Option, none, some}
 use mathlib.Core.List.{List, [], _∷_, _++_}
-use mathlib.Core.Logic.{_⊎_, inl, inr}
 use Prim.Native.Nat.{ℕ, _+_, _-_, _*_, _/_, _≤_, _<_}
 use native.Mathlib.Nat.{zero-add}
 use native.Mathlib.Omega.{arith}
@@ -11,21 +10,20 @@ use lib.Dec.{leb}
 use lib.ListN.{length, take, drop, replicate, length-replicate}
 use lib.Seq.{sets, sets-eq}
 use borrow.Author.Tests.{le-leb, lt-leb, leb-true}
-use Rattle.meaning.specs.Answers.{Refusal, Answer, is, refused, broken}
-use Rattle.meaning.specs.Bits.{bitsOf, wordCount}
+use Rattle.meaning.specs.Answers.{Refusal, is, refused, broken}
+use Rattle.meaning.specs.Bits.{bitsOf}
 use Rattle.meaning.specs.List.{greatest}
-use Rattle.meaning.specs.Family.{Level, tower}
+use Rattle.meaning.specs.Family.{tower}
 use Rattle.meaning.specs.Areas.{Rooms, Held, areaWords, areaBytes, areaMiddle, areaLarge, filled, written, counted}
-use Rattle.meaning.specs.Refusals.{refuse, check, fullFrom, firstOf}
-use Rattle.meaning.specs.Build.{Tree}
+use Rattle.meaning.specs.Refusals.{check, fullFrom, firstOf}
 use Rattle.meaning.specs.Growth.{oneRoot}
 use Rattle.meaning.specs.Direct.{Entries}
 use Rattle.meaning.proofs.If.{if-true, if-false, if-none, if-some, and-true, clash}
 use Rattle.meaning.proofs.Accepted.{check-none, first-none}
 use Rattle.meaning.proofs.OneRoot.{one-root-test}
 use Rattle.meaning.proofs.Root.{root-walk}
-use Rattle.record.specs.Record.{treeIn}
-use Rattle.record.specs.declared.Counts.{Counts}
+use Rattle.record.specs.Record.{treeIn, Sized}
+use Rattle.record.proofs.Agree.{none-counted, tree-counted}
 use Rattle.sparse_one_nnd.specs.Said.{entriesIn}
 use Rattle.sparse_one_nnd.specs.declared.SparseOneNnd.{SparseOneNnd}
 use Rattle.pioneers.specs.Placed.{holding}
@@ -35,14 +33,15 @@ use Rattle.pioneers.proofs.Parts.{part-is}
 use Rattle.pioneers.proofs.Places.{drop-zeros}
 use Rattle.parentheses.specs.Plans.{said, isMade, aloneOf, sizesOf, SizesAre, PlanIs, Standing}
 use Rattle.parentheses.specs.Writes.{heldAt, put, Writing, WrittenIs}
-use Rattle.parentheses.specs.Raises.{layOf, stringIn, roomsAt, stringChecks, sizeChecks, saidRaised, madeOf, Raising, raising, raiseIn, Stands, Holds, Fills}
+use Rattle.parentheses.specs.Raises.{layOf, stringIn, roomsAt, stringChecks, sizeChecks, saidRaised, madeOf, raising, raiseIn, refusedOf, Raises, Stands, Holds, Fills}
 use Rattle.parentheses.specs.declared.levels.Verdict.{Verdict}
 use Rattle.parentheses.specs.declared.levels.Verdict.the-variants as verdict
-use Rattle.parentheses.specs.declared.levels.Sizes.{Sizes}
-use Rattle.parentheses.specs.declared.levels.Plan.{Plan}
+use Rattle.parentheses.specs.declared.plans.Sizes.{Sizes}
+use Rattle.parentheses.specs.declared.plans.Plan.{Plan}
 use Rattle.parentheses.specs.declared.levels.Raised.{Raised}
 use Rattle.parentheses.proofs.Counting.{few-areas}
 use Rattle.parentheses.proofs.Planning.{made-none, plan-last}
+use Rattle.parentheses.proofs.Written.{held-ext}
 use Rattle.parentheses.proofs.Standing.{string-size, string-text, holds-standing, tidy-holds}
 
 -- ---- ROOM
@@ -92,12 +91,12 @@ module _ (s : Sizes) (n words bytes middle large labels : ℕ) where
 
 -- ---- the areas filled
 
-sets-zeros : (k : ℕ) (v : List ℕ) → length v ≤ k → sets (replicate k 0) 0 v ≡ filled k v
+sets-zeros : (k o : ℕ) (v : List ℕ) → o ≡ 0 → length v ≤ k → sets (replicate k 0) o v ≡ filled k v
 unfolding filled
-sets-zeros k v h = sets-eq v (replicate k 0) 0 (omega (arith, length-replicate {A = ℕ} k 0)) ∙ ap (λ (x : List ℕ). v ++ x) (drop-zeros (0 + length v) k ∙ ap (λ (n : ℕ). replicate (k - n) 0) (zero-add (length v)))
-
-held-ext : (a b : Held) → a .words ≡ b .words → a .bytes ≡ b .bytes → a .middle ≡ b .middle → a .large ≡ b .large → a ≡ b
-held-ext a b p q r s = λ i. record { words = p i; bytes = q i; middle = r i; large = s i }
+sets-zeros k o v e h =
+    ap (λ (i : ℕ). sets (replicate k 0) i v) e
+    ∙ sets-eq v (replicate k 0) 0 (omega (arith, length-replicate {A = ℕ} k 0))
+    ∙ ap (λ (x : List ℕ). v ++ x) (drop-zeros (0 + length v) k ∙ ap (λ (n : ℕ). replicate (k - n) 0) (zero-add (length v)))
 
 module _ (scr : List ℕ) (n : ℕ) (w b m g : List ℕ) (s : Fills scr n (heldAt w b m g)) (w₀ b₀ m₀ g₀ : List ℕ)
     (ew : w₀ ≡ replicate (length w) 0) (eb : b₀ ≡ replicate (length b) 0) (em : m₀ ≡ replicate (length m) 0) (eg : g₀ ≡ replicate (length g) 0)
@@ -156,10 +155,10 @@ module _ (scr : List ℕ) (n : ℕ) (w b m g : List ℕ) (s : Fills scr n (heldA
       let y : 2 * d .larges ≡ 0 = omega (arith, no-larges) in (
         a
             ∙ held-ext (put at (tower 4 l) (heldAt w₀ b₀ m₀ g₀)) (written (roomsAt (heldAt w b m g) 0 0) (tower 4 l))
-            (ap (λ (x : List ℕ). sets x 0 (areaWords (tower 4 l))) ew ∙ sets-zeros (length w) (areaWords (tower 4 l)) (s .words))
-            (ap₂ (λ (x : List ℕ) (i : ℕ). sets x i (areaBytes (tower 4 l))) eb no-bytes ∙ sets-zeros (length b) (areaBytes (tower 4 l)) (s .bytes))
-            (ap₂ (λ (x : List ℕ) (i : ℕ). sets x i (areaMiddle (tower 4 l))) em z ∙ sets-zeros (length m) (areaMiddle (tower 4 l)) (s .middle))
-            (ap₂ (λ (x : List ℕ) (i : ℕ). sets x i (areaLarge (tower 4 l))) eg y ∙ sets-zeros (length g) (areaLarge (tower 4 l)) (s .large)),
+            (ap (λ (x : List ℕ). sets x 0 (areaWords (tower 4 l))) ew ∙ sets-zeros (length w) 0 (areaWords (tower 4 l)) refl (s .words))
+            (ap (λ (x : List ℕ). sets x (d .bytes) (areaBytes (tower 4 l))) eb ∙ sets-zeros (length b) (d .bytes) (areaBytes (tower 4 l)) no-bytes (s .bytes))
+            (ap (λ (x : List ℕ). sets x (2 * d .middles) (areaMiddle (tower 4 l))) em ∙ sets-zeros (length m) (2 * d .middles) (areaMiddle (tower 4 l)) z (s .middle))
+            (ap (λ (x : List ℕ). sets x (2 * d .larges) (areaLarge (tower 4 l))) eg ∙ sets-zeros (length g) (2 * d .larges) (areaLarge (tower 4 l)) y (s .large)),
         r .zeros,
       )
 
@@ -200,76 +199,79 @@ plan-short scr n h l r q =
     subst (PlanIs r 4 1) (sym (string-text scr n)) (plan-last scr (layOf n) 4 1 (holds-standing scr n h, omega arith, omega arith) (omega arith) r q)
 
 module _ (scr : List ℕ) (n : ℕ) (a : Held) (labels : ℕ) where
-  abbrev string : List Bool
-  string = stringIn scr n
+  abbrev S : List Bool
+  S = stringIn scr n
 
   abbrev rooms : Rooms
   rooms = roomsAt a labels (length scr)
 
   module _ (s : Stands scr n) where
     within : raiseIn scr n a labels
-        ≡ elim (firstOf (stringChecks string n rooms)) [
-          | none ↦ raising (is (record { nodes = n; counts = counted (tower 4 string) })) (written rooms (tower 4 string)) (replicate (length scr) 0)
+        ≡ elim (firstOf (stringChecks S n rooms)) [
+          | none ↦ raising (is (record { nodes = n; counts = counted (tower 4 S) })) (written rooms (tower 4 S)) (replicate (length scr) 0)
           | some r ↦ raising (refused r) a (replicate (length scr) 0)
         ]
     unfolding raiseIn
     within = if-true _ _ (and-true (le-leb n greatest (s .few)) (and-true (le-leb (2 * n + 2) (length scr) (s .room)) (s .root)))
 
-    refused-is : (x : Refusal) → firstOf (stringChecks string n rooms) ≡ some x → (r : Raised) → said (r .verdict) ≡ some x → (exit : List ℕ) → exit ≡ replicate (length scr) 0
-        → raising (saidRaised r) a exit ≡ raiseIn scr n a labels
-    refused-is x e r f exit z =
-        ap₂ (λ p q. raising p a q) (refused-said r x f) z ∙ sym (if-some _ _ x e) ∙ sym within
+    refused-is : (x : Refusal) → firstOf (stringChecks S n rooms) ≡ some x → (v : Verdict) → said v ≡ some x → (r : Raised) → r ≡ refusedOf v
+        → (exit : List ℕ) → exit ≡ replicate (length scr) 0 → Raises scr n a labels a exit r
+    refused-is x e v f r g exit z =
+        record {
+          outcome = ap₂ (λ p q. raising p a q) (refused-said r x (ap (λ (y : Raised). said (y .verdict)) g ∙ f)) z ∙ sym (if-some _ _ x e) ∙ sym within;
+          counts = none-counted (said (r .verdict)) (r .counts) (ap (λ (y : Raised). y .counts) g);
+        }
 
     -- the plan
-    module _ (one : List ℕ) (q : one ≡ holding (n + 1) (length scr) string) (p : Plan) (two : List ℕ) (k : PlanIs p 4 1 (stringIn one n) × (two ≡ one)) where
-      held : Holds one n × (stringIn one n ≡ string) × (length one ≡ length scr)
+    module _ (one : List ℕ) (q : one ≡ holding (n + 1) (length scr) S) (p : Plan) (two : List ℕ) (k : PlanIs p 4 1 (stringIn one n) × (two ≡ one)) where
+      held : Holds one n × (stringIn one n ≡ S) × (length one ≡ length scr)
       held = tidy-holds scr one n s q
 
-      plan-is : PlanIs p 4 1 string
+      plan-is : PlanIs p 4 1 S
       plan-is = subst (PlanIs p 4 1) (held .1) (k .0)
 
       pub raise-length : length two ≡ length scr
       raise-length = ap length (k .1) ∙ held .2
 
       module _ (v : Bool) (e : v ≡ isMade (p .verdict)) where
-        pub raise-refused : v ≡ false → (r : Raised) → r .verdict ≡ p .verdict → (exit : List ℕ) → exit ≡ replicate (length two) 0
-            → raising (saidRaised r) a exit ≡ raiseIn scr n a labels
+        pub raise-refused : v ≡ false → (r : Raised) → r ≡ refusedOf (p .verdict) → (exit : List ℕ) → exit ≡ replicate (length two) 0
+            → Raises scr n a labels a exit r
         unfolding stringChecks
         raise-refused f r g exit z =
             let x = not-made (p .verdict) (sym e ∙ f) in
-            refused-is (x .0) (first-some _ _ (x .0) (sym (plan-is .refusal) ∙ x .1)) r (ap said g ∙ x .1) exit (z ∙ ap (λ i. replicate i 0) raise-length)
+            refused-is (x .0) (first-some _ _ (x .0) (sym (plan-is .refusal) ∙ x .1)) (p .verdict) (x .1) r g exit (z ∙ ap (λ i. replicate i 0) raise-length)
 
         module _ (f : v ≡ true) where
-          narrow : fullFrom 4 1 string ≡ none
+          narrow : fullFrom 4 1 S ≡ none
           narrow = sym (plan-is .refusal) ∙ made-none (p .verdict) (sym e ∙ f)
 
-          sizes : SizesAre (p .sizes) (tower 4 string)
+          sizes : SizesAre (p .sizes) (tower 4 S)
           sizes = plan-is .sizes narrow
 
           -- by the sizes
-          same-checks : firstOf (stringChecks string n rooms) ≡ firstOf (sizeChecks (p .sizes) n (length (a .words)) (length (a .bytes)) (length (a .middle)) (length (a .large)) labels)
+          same-checks : firstOf (stringChecks S n rooms) ≡ firstOf (sizeChecks (p .sizes) n (length (a .words)) (length (a .bytes)) (length (a .middle)) (length (a .large)) labels)
           unfolding stringChecks sizeChecks
           same-checks =
               first-skip _ _ narrow
-              ∙ ap₂ (λ i j. firstOf (check (leb i (length (a .words))) 4 (0 ∷ []) ∷ check (leb j (length (a .bytes))) 4 (1 ∷ []) ∷ check (leb (length (areaMiddle (tower 4 string))) (length (a .middle))) 4 (2 ∷ []) ∷ check (leb (length (areaLarge (tower 4 string))) (length (a .large))) 4 (3 ∷ []) ∷ check (leb n labels) 4 (4 ∷ []) ∷ []))
+              ∙ ap₂ (λ i j. firstOf (check (leb i (length (a .words))) 4 (0 ∷ []) ∷ check (leb j (length (a .bytes))) 4 (1 ∷ []) ∷ check (leb (length (areaMiddle (tower 4 S))) (length (a .middle))) 4 (2 ∷ []) ∷ check (leb (length (areaLarge (tower 4 S))) (length (a .large))) 4 (3 ∷ []) ∷ check (leb n labels) 4 (4 ∷ []) ∷ []))
               (sym (sizes .words)) (sym (sizes .bytes))
               ∙ ap₂ (λ i j. firstOf (check (leb (p .sizes .words) (length (a .words))) 4 (0 ∷ []) ∷ check (leb (p .sizes .dict .bytes) (length (a .bytes))) 4 (1 ∷ []) ∷ check (leb i (length (a .middle))) 4 (2 ∷ []) ∷ check (leb j (length (a .large))) 4 (3 ∷ []) ∷ check (leb n labels) 4 (4 ∷ []) ∷ []))
               (sym (sizes .middle)) (sym (sizes .large))
 
           module _ (x : Verdict) (c : said x ≡ firstOf (sizeChecks (p .sizes) n (length (a .words)) (length (a .bytes)) (length (a .middle)) (length (a .large)) labels)) (u : Bool) (d : u ≡ isMade x) where
-            pub raise-room : u ≡ false → (r : Raised) → r .verdict ≡ x → (exit : List ℕ) → exit ≡ replicate (length two) 0 → raising (saidRaised r) a exit ≡ raiseIn scr n a labels
+            pub raise-room : u ≡ false → (r : Raised) → r ≡ refusedOf x → (exit : List ℕ) → exit ≡ replicate (length two) 0 → Raises scr n a labels a exit r
             raise-room g r h exit z =
                 let y = not-made x (sym d ∙ g) in
-                refused-is (y .0) (same-checks ∙ sym c ∙ y .1) r (ap said h ∙ y .1) exit (z ∙ ap (λ i. replicate i 0) raise-length)
+                refused-is (y .0) (same-checks ∙ sym c ∙ y .1) x (y .1) r h exit (z ∙ ap (λ i. replicate i 0) raise-length)
 
             module _ (g : u ≡ true) where
-              none-refuses : firstOf (stringChecks string n rooms) ≡ none
+              none-refuses : firstOf (stringChecks S n rooms) ≡ none
               none-refuses = same-checks ∙ sym c ∙ made-none x (sym d ∙ g)
 
               pub raise-fills : Fills two n a
               unfolding stringChecks
               raise-fills =
-                  let t : stringIn two n ≡ string = ap (λ y. stringIn y n) (k .1) ∙ held .1 in
+                  let t : stringIn two n ≡ S = ap (λ y. stringIn y n) (k .1) ∙ held .1 in
                   let r₀ = first-none _ _ none-refuses in
                   let r₁ = first-none _ _ (r₀ .1) in
                   let r₂ = first-none _ _ (r₁ .1) in
@@ -285,28 +287,36 @@ module _ (scr : List ℕ) (n : ℕ) (a : Held) (labels : ℕ) where
                   }
 
               pub raise-made : (b : Held) (exit : List ℕ) → (b ≡ written (roomsAt a 0 0) (tower 4 (stringIn two n))) × (exit ≡ replicate (length two) 0) → (r : Raised) → r ≡ madeOf (p .counts) n
-                  → raising (saidRaised r) b exit ≡ raiseIn scr n a labels
+                  → Sized (r .counts) → Raises scr n a labels b exit r
               unfolding saidRaised written treeIn
-              raise-made b exit h r i =
-                  let t : stringIn two n ≡ string = ap (λ y. stringIn y n) (k .1) ∙ held .1 in
-                  let answer : saidRaised r ≡ is (record { nodes = n; counts = counted (tower 4 string) }) =
+              raise-made b exit h r i z =
+                  let t : stringIn two n ≡ S = ap (λ y. stringIn y n) (k .1) ∙ held .1 in
+                  let answer : saidRaised r ≡ is (record { nodes = n; counts = counted (tower 4 S) }) =
                   ap saidRaised i ∙ ap (λ y. is (record { nodes = n; counts = y })) (plan-is .counts narrow) in
-                  (λ j. raising (answer j) ((h .0 ∙ ap (λ y. written rooms (tower 4 y)) t) j) ((h .1 ∙ ap (λ y. replicate y 0) raise-length) j))
-                  ∙ sym (if-none _ _ none-refuses) ∙ sym within
+                  record {
+                    outcome =
+                        (λ j. raising (answer j) ((h .0 ∙ ap (λ y. written rooms (tower 4 y)) t) j) ((h .1 ∙ ap (λ y. replicate y 0) raise-length) j))
+                        ∙ sym (if-none _ _ none-refuses) ∙ sym within;
+                    counts = tree-counted (said (r .verdict)) (r .counts) (ap (λ (y : Raised). said (y .verdict)) i) z;
+                  }
 
   -- no string of n nodes
-  broken-is : (leb n greatest && (leb (2 * n + 2) (length scr) && oneRoot string)) ≡ false → (r : Raised) → r .verdict ≡ verdict.Broken → (exit : List ℕ) → exit ≡ replicate (length scr) 0
-      → raising (saidRaised r) a exit ≡ raiseIn scr n a labels
+  broken-is : (leb n greatest && (leb (2 * n + 2) (length scr) && oneRoot S)) ≡ false → (r : Raised) → r ≡ refusedOf verdict.Broken → (exit : List ℕ) → exit ≡ replicate (length scr) 0
+      → Raises scr n a labels a exit r
   unfolding raiseIn
-  broken-is e r f exit z = ap₂ (λ p q. raising p a q) (refused-said r broken (ap said f)) z ∙ sym (if-false _ _ e)
+  broken-is e r f exit z =
+      record {
+        outcome = ap₂ (λ p q. raising p a q) (refused-said r broken (ap (λ (y : Raised). said (y .verdict)) f)) z ∙ sym (if-false _ _ e);
+        counts = none-counted (said (r .verdict)) (r .counts) (ap (λ (y : Raised). y .counts) f);
+      }
 
-  pub broken-many : greatest < n → (r : Raised) → r .verdict ≡ verdict.Broken → (exit : List ℕ) → exit ≡ replicate (length scr) 0 → raising (saidRaised r) a exit ≡ raiseIn scr n a labels
-  broken-many h = broken-is (ap (λ b. b && (leb (2 * n + 2) (length scr) && oneRoot string)) (lt-leb n greatest h))
+  pub broken-many : greatest < n → (r : Raised) → r ≡ refusedOf verdict.Broken → (exit : List ℕ) → exit ≡ replicate (length scr) 0 → Raises scr n a labels a exit r
+  broken-many h = broken-is (ap (λ b. b && (leb (2 * n + 2) (length scr) && oneRoot S)) (lt-leb n greatest h))
 
   module _ (few : n ≤ greatest) where
-    pub broken-room : length scr < 2 * n + 2 → (r : Raised) → r .verdict ≡ verdict.Broken → (exit : List ℕ) → exit ≡ replicate (length scr) 0 → raising (saidRaised r) a exit ≡ raiseIn scr n a labels
-    broken-room h = broken-is (ap₂ (λ b c. b && (c && oneRoot string)) (le-leb n greatest few) (lt-leb (2 * n + 2) (length scr) h))
+    pub broken-room : length scr < 2 * n + 2 → (r : Raised) → r ≡ refusedOf verdict.Broken → (exit : List ℕ) → exit ≡ replicate (length scr) 0 → Raises scr n a labels a exit r
+    broken-room h = broken-is (ap₂ (λ b c. b && (c && oneRoot S)) (le-leb n greatest few) (lt-leb (2 * n + 2) (length scr) h))
 
     module _ (room : 2 * n + 2 ≤ length scr) (t : Bool) (q : t ≡ oneRoot (bitsOf (take (length scr - (n + 1)) (drop (n + 1) scr)) (2 * n + 2))) where
-      pub broken-root : t ≡ false → (r : Raised) → r .verdict ≡ verdict.Broken → (exit : List ℕ) → exit ≡ replicate (length scr) 0 → raising (saidRaised r) a exit ≡ raiseIn scr n a labels
-      broken-root h = broken-is (ap₂ (λ b c. b && (c && oneRoot string)) (le-leb n greatest few) (le-leb (2 * n + 2) (length scr) room) ∙ sym (root-is scr n t q) ∙ h)
+      pub broken-root : t ≡ false → (r : Raised) → r ≡ refusedOf verdict.Broken → (exit : List ℕ) → exit ≡ replicate (length scr) 0 → Raises scr n a labels a exit r
+      broken-root h = broken-is (ap₂ (λ b c. b && (c && oneRoot S)) (le-leb n greatest few) (le-leb (2 * n + 2) (length scr) room) ∙ sym (root-is scr n t q) ∙ h)

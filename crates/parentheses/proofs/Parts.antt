@@ -1,5 +1,5 @@
 -- The parts of a plan: the ways out of `add`, `last` and `above`.
-use mathlib.Core.Path.{_≡_, refl, sym, ap, ap₂, _∙_}
+use mathlib.Core.Path.{_≡_, sym, ap, ap₂, _∙_}
 use mathlib.Core.Bool.{Bool, true, false}
 use Prim.Native.Nat.{ℕ, _+_}
 use Rattle.meaning.specs.Bits.{wordCount}
@@ -9,8 +9,8 @@ use Rattle.sparse_one_nnd.specs.Said.{entriesIn}
 use Rattle.sparse_one_nnd.specs.declared.SparseOneNnd.{SparseOneNnd}
 use Rattle.parentheses.specs.Plans.{isMade, shifted, sizesOf, added, planOf, aboveIf, aboveOf}
 use Rattle.parentheses.specs.declared.levels.Verdict.the-variants as verdict
-use Rattle.parentheses.specs.declared.levels.Sizes.{Sizes}
-use Rattle.parentheses.specs.declared.levels.Plan.{Plan}
+use Rattle.parentheses.specs.declared.plans.Sizes.{Sizes}
+use Rattle.parentheses.specs.declared.plans.Plan.{Plan}
 
 abbrev dictOf : Entries → SparseOneNnd
 dictOf e = record { bytes = e .bytes; middles = e .middle; larges = e .large }

@@ -3,38 +3,35 @@ use mathlib.Core.Path.{_≡_, refl, sym, ap, ap₂, _∙_, subst}
 use mathlib.Core.Bool.{Bool, true, false}
 use mathlib.Core.Option.{Option, none, some}
 use mathlib.Core.List.{List, [], _∷_}
-use Prim.Native.Nat.{ℕ, zero, suc, _+_, _-_, _*_, _/_, _≤_, _<_}
+use Prim.Native.Nat.{ℕ, zero, suc, _+_, _-_, _/_, _≤_, _<_}
 use native.Mathlib.Numerals.{add-one}
 use native.Mathlib.Omega.{arith}
 use lib.Dec.{leb}
-use lib.ListN.{length, replicate}
+use lib.ListN.{length}
 use borrow.Author.Tests.{le-leb, lt-leb}
 use Rattle.meaning.specs.Answers.{Refusal}
 use Rattle.meaning.specs.Pioneers.{flags, pioneerString}
 use Rattle.meaning.specs.Dictionary.{dictOf}
-use Rattle.meaning.specs.Family.{Level, tower}
+use Rattle.meaning.specs.Family.{tower}
 use Rattle.meaning.specs.Areas.{counted}
-use Rattle.meaning.specs.Refusals.{refuse, check, fullBlock, fullAt, fullFrom}
+use Rattle.meaning.specs.Refusals.{check, fullBlock, fullAt, fullFrom}
 use Rattle.meaning.specs.Direct.{entriesOf}
 use Rattle.meaning.proofs.If.{if-true, if-false, clash}
 use Rattle.meaning.proofs.Root.{root-walk}
 use Rattle.meaning.proofs.Bounds.{Within}
-use Rattle.record.specs.Record.{treeIn}
-use Rattle.record.specs.declared.Counts.{Counts}
 use Rattle.sparse_one_nnd.specs.Said.{entriesIn}
 use Rattle.sparse_one_nnd.specs.declared.SparseOneNnd.{SparseOneNnd}
-use Rattle.pioneers.specs.Placed.{holding}
 use Rattle.pioneers.specs.Scratch.{textOf}
 use Rattle.pioneers.specs.declared.flags.Layout.{Layout}
 use Rattle.pioneers.proofs.Parts.{text-length}
-use Rattle.parentheses.specs.Plans.{said, isMade, aloneOf, sizesOf, planOf, aboveIf, aboveOf, Small, SizesAre, PlanIs, Standing, FamilyIs}
+use Rattle.parentheses.specs.Plans.{said, isMade, aloneOf, sizesOf, aboveIf, aboveOf, Small, SizesAre, PlanIs, Standing, FamilyIs}
 use Rattle.parentheses.specs.declared.levels.Verdict.{Verdict}
 use Rattle.parentheses.specs.declared.levels.Verdict.the-variants as verdict
-use Rattle.parentheses.specs.declared.levels.Plan.{Plan}
+use Rattle.parentheses.specs.declared.plans.Plan.{Plan}
 use Rattle.parentheses.specs.declared.plans.Family.{Family}
 use Rattle.parentheses.specs.declared.plans.Family.the-variants as family
 use Rattle.parentheses.proofs.Holds.{level-root, standing-next}
-use Rattle.parentheses.proofs.Counting.{single, famous, tower-short, tower-long, counts-last, counts-more, sizes-last, sizes-more, sizes-small, few-areas}
+use Rattle.parentheses.proofs.Counting.{famous, tower-short, tower-long, counts-last, counts-more, sizes-last, sizes-more, sizes-small, few-areas}
 
 -- what is refused is not made
 some-none : (r : Refusal) {A : Type 0} → _≡_ {A = Option Refusal} (some r) none → A

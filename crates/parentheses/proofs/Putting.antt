@@ -1,21 +1,20 @@
 -- The ways out of `write_family`: a dictionary that has room is written.
-use mathlib.Core.Path.{_≡_, refl, sym, ap, ap₂, _∙_, subst}
-use mathlib.Core.Bool.{Bool, true, false}
+use mathlib.Core.Path.{_≡_, refl, sym, ap, _∙_, subst}
+use mathlib.Core.Bool.{Bool, false}
 use mathlib.Core.List.{List, [], _∷_}
-use mathlib.Core.Logic.{_⊎_, inl, inr}
-use Prim.Native.Nat.{ℕ, _+_, _-_, _*_, _/_, _≤_, _<_}
+use Prim.Native.Nat.{ℕ, _+_, _-_, _/_, _≤_}
 use native.Mathlib.Omega.{arith}
 use lib.ListN.{length, take, drop}
 use denote.Enum.Declared.{tagOf}
 use types.Run.{OneOf, miss}
 use Rattle.meaning.specs.Answers.{Answer, is, nothing, refused}
-use Rattle.meaning.specs.Bits.{bitsOf, pack}
-use Rattle.meaning.specs.Pioneers.{flags, pioneerString}
-use Rattle.meaning.specs.Dictionary.{Dict, dictOf}
+use Rattle.meaning.specs.Bits.{bitsOf}
+use Rattle.meaning.specs.Pioneers.{flags}
+use Rattle.meaning.specs.Dictionary.{dictOf}
 use Rattle.meaning.specs.Refusals.{fullBlock}
-use Rattle.meaning.specs.Direct.{Entries, DictAfter, DictAccepted, entriesOf, dictPut, dictRooms, dictRefusal, dictWrite, mostBits}
-use Rattle.meaning.proofs.If.{if-none, clash}
-use Rattle.meaning.proofs.Direct.{dict-exactly}
+use Rattle.meaning.specs.Direct.{Entries, DictAfter, DictAccepted, entriesOf, dictPut, dictRooms, dictWrite}
+use Rattle.meaning.proofs.If.{clash}
+use Rattle.meaning.proofs.Planned.{write-accepted}
 use Rattle.meaning.proofs.Pack.{length-pack}
 use Rattle.sparse_one_nnd.specs.Said.{entriesIn, dictAt, saidBuilt, after}
 use Rattle.sparse_one_nnd.specs.declared.SparseOneNnd.{SparseOneNnd}
@@ -86,9 +85,8 @@ module _ (scr : List ℕ) (lay : Layout) (o : SparseOneNnd) (b m g : List ℕ) (
       }
 
   wrote : dictWrite W (lay .bits) (entriesIn o) (dictAt b m g) ≡ after (is (entriesOf (dictOf (flags l)))) (dictPut (entriesIn o) (dictOf (flags l)) (dictAt b m g))
-  unfolding dictWrite
   wrote =
-      if-none _ _ (dict-exactly W (lay .bits) (dictRooms (entriesIn o) (dictAt b m g)) .1 rooms)
+      write-accepted W (lay .bits) (entriesIn o) (dictAt b m g) rooms
       ∙ ap (λ f. after (is (entriesOf (dictOf f))) (dictPut (entriesIn o) (dictOf f) (dictAt b m g))) bits-are
 
   module _ (w : sparse.Built) (b′ m′ g′ : List ℕ)

@@ -1,9 +1,9 @@
 -- A string of n nodes in scratch: its layout, what tidying leaves, and the copy that the plan keeps of it.
 use mathlib.Core.Path.{_≡_, refl, sym, ap, ap₂, _∙_, subst}
-use mathlib.Core.Bool.{Bool, true, false}
-use mathlib.Core.List.{List, [], _∷_, _++_}
+use mathlib.Core.Bool.{Bool, true}
+use mathlib.Core.List.{List, _++_}
 use mathlib.Core.Logic.{_⊎_, inl, inr}
-use Prim.Native.Nat.{ℕ, _+_, _-_, _*_, _/_, _≤_, _<_}
+use Prim.Native.Nat.{ℕ, _+_, _-_, _*_, _≤_, _<_}
 use native.Mathlib.Omega.{arith}
 use lib.ListN.{length, getD, take, drop, replicate, length-append, length-drop, length-replicate, List·getD-append, List·getD-eq-default, drop-of-length-le}
 use lib.Seq.{paste, length-paste, ext-getD, getD-drop, getD-take, getD-append-add, length-take-le, drop-at}
@@ -13,7 +13,7 @@ use Rattle.meaning.specs.Growth.{oneRoot}
 use Rattle.meaning.specs.List.{greatest}
 use Rattle.meaning.proofs.If.{and-true}
 use Rattle.meaning.proofs.Stored.{length-bits}
-use Rattle.meaning.proofs.Pack.{length-pack, pack-at}
+use Rattle.meaning.proofs.Pack.{pack-at}
 use Rattle.pioneers.specs.Placed.{holding}
 use Rattle.pioneers.specs.Scratch.{textOf, fitsIn}
 use Rattle.pioneers.specs.declared.flags.Layout.{Layout}
@@ -21,7 +21,7 @@ use Rattle.pioneers.proofs.Parts.{lt-or-ge, zeros-at, part-is, part-new, part-z
 use Rattle.parentheses.specs.Copies.{Apart}
 use Rattle.parentheses.specs.Plans.{Standing, PlanIs}
 use Rattle.parentheses.specs.Raises.{layOf, stringIn, Stands, Holds}
-use Rattle.parentheses.specs.declared.levels.Plan.{Plan}
+use Rattle.parentheses.specs.declared.plans.Plan.{Plan}
 use Rattle.parentheses.proofs.Holds.{length-holding, text-held}
 use Rattle.parentheses.proofs.Copied.{paste-else, paste-there}
 

@@ -12,7 +12,6 @@ use Rattle.meaning.specs.Dictionary.{dictOf}
 use Rattle.meaning.specs.Family.{Level, tower}
 use Rattle.meaning.specs.Areas.{areaWords, areaBytes, areaMiddle, areaLarge, counted}
 use Rattle.meaning.specs.Refusals.{refuse, fullBlock, fullFrom}
-use Rattle.meaning.specs.Build.{Tree}
 use Rattle.meaning.specs.Growth.{oneRoot}
 use Rattle.meaning.specs.Direct.{entriesOf, mostBits}
 use Rattle.record.specs.Record.{treeIn}
@@ -24,8 +23,8 @@ use Rattle.pioneers.specs.Scratch.{textOf, fitsIn}
 use Rattle.pioneers.specs.declared.flags.Layout.{Layout}
 use Rattle.parentheses.specs.declared.levels.Verdict.{Verdict}
 use Rattle.parentheses.specs.declared.levels.Verdict.the-variants as verdict
-use Rattle.parentheses.specs.declared.levels.Sizes.{Sizes}
-use Rattle.parentheses.specs.declared.levels.Plan.{Plan}
+use Rattle.parentheses.specs.declared.plans.Sizes.{Sizes}
+use Rattle.parentheses.specs.declared.plans.Plan.{Plan}
 use Rattle.parentheses.specs.declared.plans.Family.{Family}
 use Rattle.parentheses.specs.declared.plans.Family.the-variants as family
 

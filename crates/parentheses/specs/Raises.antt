@@ -14,13 +14,14 @@ use Rattle.meaning.specs.Areas.{Rooms, Held, areaWords, areaBytes, areaMiddle, 
 use Rattle.meaning.specs.Refusals.{check, fullFrom, firstOf}
 use Rattle.meaning.specs.Build.{Tree}
 use Rattle.meaning.specs.Growth.{oneRoot}
-use Rattle.record.specs.Record.{treeIn}
+use Rattle.record.specs.Record.{treeIn, noCounts, Counted}
 use Rattle.record.specs.declared.Counts.{Counts}
 use Rattle.pioneers.specs.Placed.{holding}
 use Rattle.pioneers.specs.declared.flags.Layout.{Layout}
 use Rattle.parentheses.specs.Plans.{said}
-use Rattle.parentheses.specs.declared.levels.Sizes.{Sizes}
+use Rattle.parentheses.specs.declared.plans.Sizes.{Sizes}
 use Rattle.parentheses.specs.declared.levels.Raised.{Raised}
+use Rattle.parentheses.specs.declared.levels.Verdict.{Verdict}
 use Rattle.parentheses.specs.declared.levels.Verdict.the-variants as verdict
 
 -- the parts of scratch for n nodes
@@ -77,6 +78,10 @@ madeOf c n =
       counts = record { nodes = n; bits = c .bits; bytes = c .bytes; middles = c .middles; larges = c .larges };
     }
 
+-- a refusal, with counts of nothing
+abbrev pub refusedOf : Verdict → Raised
+refusedOf v = record { verdict = v; counts = noCounts }
+
 -- with the areas and scratch as they are left
 pub record Raising : Type 0 where
   pub reply : Answer Tree
@@ -100,6 +105,11 @@ raiseIn scr n a labels =
           ]
       | false ↦ raising (refused broken) a zeros
     ]
+
+-- THE CONTRACT of the level builder: of a string of n nodes in scratch and areas a, into areas b and scratch `exit`, with answer r
+pub record Raises (scr : List ℕ) (n : ℕ) (a : Held) (labels : ℕ) (b : Held) (exit : List ℕ) (r : Raised) : Type 0 where
+  pub outcome : raising (saidRaised r) b exit ≡ raiseIn scr n a labels
+  pub counts : Counted (said (r .verdict)) (r .counts)
 
 -- a string of n nodes, whatever stands beside it
 pub record Stands (scr : List ℕ) (n : ℕ) : Type 0 where

@@ -6,7 +6,7 @@ use Prim.Native.Nat.{ℕ, _+_, _*_, _/_, _≤_, _<_}
 use lib.ListN.{length, replicate}
 use lib.Seq.{sets}
 use Rattle.meaning.specs.Pioneers.{flags, pioneerString}
-use Rattle.meaning.specs.Dictionary.{Dict, dictOf}
+use Rattle.meaning.specs.Dictionary.{dictOf}
 use Rattle.meaning.specs.Family.{Level, tower}
 use Rattle.meaning.specs.Areas.{Held, areaWords, areaBytes, areaMiddle, areaLarge}
 use Rattle.meaning.specs.Refusals.{fullBlock, fullFrom}
@@ -17,7 +17,7 @@ use Rattle.pioneers.specs.Placed.{holding}
 use Rattle.pioneers.specs.Scratch.{textOf}
 use Rattle.pioneers.specs.declared.flags.Layout.{Layout}
 use Rattle.parentheses.specs.Plans.{Standing}
-use Rattle.parentheses.specs.declared.levels.Sizes.{Sizes}
+use Rattle.parentheses.specs.declared.plans.Sizes.{Sizes}
 use Rattle.parentheses.specs.declared.plans.Family.{Family}
 use Rattle.parentheses.specs.declared.plans.Family.the-variants as family
 

@@ -1,13 +1,12 @@
 // Words copied from one slice to another, and within one.
 ghost use mathlib.Core.Path.{_≡_};
-ghost use mathlib.Core.Logic.{_⊎_};
 ghost use Prim.Native.Nat.{_+_, _<_, _≤_};
 ghost use lib.ListN.{length, drop};
 ghost use lib.Seq.{paste};
 ghost use Rattle.parentheses.specs.Copies.{Apart};
 
 // `count` words from place a on, to place b on.
-pub fn copy_words(source: &[u64], a: usize, to: &mut [u64], b: usize, count: usize)
+pub(crate) fn copy_words(source: &[u64], a: usize, to: &mut [u64], b: usize, count: usize)
     requires { ⌜ (a + count ≤ length (now source)) × (b + count ≤ length (now to)) ⌝ }
     ensures { λ _. ⌜ now (to .exit) ≡ paste (now (to .entry)) b (drop a (now (source .entry))) count ⌝ }
 {
@@ -19,7 +18,7 @@ pub fn copy_words(source: &[u64], a: usize, to: &mut [u64], b: usize, count: usi
 }
 
 // The same within one slice, where the two parts do not meet.
-pub fn copy_within(words: &mut [u64], a: usize, b: usize, count: usize)
+pub(crate) fn copy_within(words: &mut [u64], a: usize, b: usize, count: usize)
     requires { ⌜ Apart a b count (length (now words)) ⌝ }
     ensures { λ _. ⌜ now (words .exit) ≡ paste (now (words .entry)) b (drop a (now (words .entry))) count ⌝ }
 {

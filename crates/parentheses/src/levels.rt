@@ -9,8 +9,10 @@ ghost use Rattle.meaning.specs.Refusals.{firstOf};
 ghost use Rattle.pioneers.specs.Placed.{holding};
 ghost use Rattle.parentheses.specs.Plans.{said, PlanIs};
 ghost use Rattle.parentheses.specs.Writes.{heldAt};
-ghost use Rattle.parentheses.specs.Raises.{layOf, stringIn, roomsAt, sizeChecks, saidRaised, raising, raiseIn, madeOf, Stands, Holds, Fills};
+ghost use Rattle.parentheses.specs.Raises.{layOf, stringIn, roomsAt, sizeChecks, Raises, refusedOf, madeOf, Stands, Holds, Fills};
 use crate::copies::copy_within;
+use crate::plans::Plan;
+use crate::plans::Sizes;
 use crate::plans::is_made;
 use crate::plans::last;
 use crate::plans::plan_levels;
@@ -33,20 +35,7 @@ pub enum Verdict {
     Broken,
 }
 
-// Words of area 0, and entries of areas 1 to 3: what some levels take, or what lies before a level.
-pub struct Sizes {
-    pub words: usize,
-    pub dict: SparseOneNnd,
-}
-
-// What the levels of a string take, or why there are none.
-pub struct Plan {
-    pub verdict: Verdict,
-    pub counts: Counts,
-    pub sizes: Sizes,
-}
-
-// The record of counts, if the verdict is that it is made.
+// The record of counts, if the verdict is that it is made; else counts of nothing.
 pub struct Raised {
     pub verdict: Verdict,
     pub counts: Counts,
@@ -150,7 +139,7 @@ fn fill(
 
 // A refusal, with counts of nothing.
 fn refused(v: Verdict) -> Raised
-    ensures { λ r. ⌜ r .verdict ≡ v ⌝ }
+    ensures { λ r. ⌜ r ≡ refusedOf v ⌝ }
 {
     Raised {
         verdict: v,
@@ -195,7 +184,7 @@ fn raise_string(
     labels: usize,
 ) -> Raised
     requires { ⌜ Stands (now scr) n ⌝ }
-    ensures { λ r. ⌜ raising (saidRaised r) (heldAt (now (words .exit)) (now (bytes .exit)) (now (middles .exit)) (now (larges .exit))) (now (scr .exit)) ≡ raiseIn (now (scr .entry)) n (heldAt (now (words .entry)) (now (bytes .entry)) (now (middles .entry)) (now (larges .entry))) labels ⌝ }
+    ensures { λ r. ⌜ Raises (now (scr .entry)) n (heldAt (now (words .entry)) (now (bytes .entry)) (now (middles .entry)) (now (larges .entry))) labels (heldAt (now (words .exit)) (now (bytes .exit)) (now (middles .exit)) (now (larges .exit))) (now (scr .exit)) r ⌝ }
 {
     tidy(scr, n);
     let p = plan_string(scr, n);
@@ -234,7 +223,7 @@ pub fn raise(
     larges: &mut [u64],
     labels: usize,
 ) -> Raised
-    ensures { λ r. ⌜ raising (saidRaised r) (heldAt (now (words .exit)) (now (bytes .exit)) (now (middles .exit)) (now (larges .exit))) (now (scr .exit)) ≡ raiseIn (now (scr .entry)) n (heldAt (now (words .entry)) (now (bytes .entry)) (now (middles .entry)) (now (larges .entry))) labels ⌝ }
+    ensures { λ r. ⌜ Raises (now (scr .entry)) n (heldAt (now (words .entry)) (now (bytes .entry)) (now (middles .entry)) (now (larges .entry))) labels (heldAt (now (words .exit)) (now (bytes .exit)) (now (middles .exit)) (now (larges .exit))) (now (scr .exit)) r ⌝ }
 {
     if 1048575 < n {
         zero64(scr);

@@ -1,14 +1,11 @@
 // The plan: what each level takes, in scratch alone. "Each pioneer string is built upon in the same way until one has 64 bits or fewer".
 ghost use mathlib.Core.Path.{_≡_};
-ghost use mathlib.Core.Bool.{Bool, true};
+ghost use mathlib.Core.Bool.{true};
 ghost use Prim.Native.Nat.{_+_, _<_, _≤_};
 ghost use lib.ListN.{length, replicate};
-ghost use Rattle.meaning.specs.Bits.{wordCount};
 ghost use Rattle.pioneers.specs.Scratch.{textOf};
 ghost use Rattle.parentheses.specs.declared.levels.Verdict.the-variants as Verdict;
 ghost use Rattle.parentheses.specs.Plans.{isMade, aloneOf, shifted, sizesOf, added, aboveOf, Small, Standing, FamilyIs, PlanIs};
-use crate::levels::Plan;
-use crate::levels::Sizes;
 use crate::levels::Verdict;
 use pioneers::compact::compact;
 use pioneers::flags::Layout;
@@ -19,14 +16,27 @@ use sparse_one_nnd::SparseOneNnd;
 use words::word_count;
 use words::zero64;
 
+// Words of area 0, and entries of areas 1 to 3: what some levels take, or what lies before a level.
+pub(crate) struct Sizes {
+    pub(crate) words: usize,
+    pub(crate) dict: SparseOneNnd,
+}
+
+// What the levels of a string take, or why there are none.
+pub(crate) struct Plan {
+    pub(crate) verdict: Verdict,
+    pub(crate) counts: Counts,
+    pub(crate) sizes: Sizes,
+}
+
 // The family of a string: its dictionary's counts, and the bits of the pioneer string, which then stands in the string's place.
-pub enum Family {
+pub(crate) enum Family {
     Made(SparseOneNnd, usize),
     Full(usize),
     Broken,
 }
 
-pub fn is_made(v: Verdict) -> bool
+pub(crate) fn is_made(v: Verdict) -> bool
     ensures { λ r. ⌜ r ≡ isMade v ⌝ }
 {
     match v {
@@ -69,7 +79,7 @@ fn shift(m: usize, d: SparseOneNnd, c: Counts) -> Counts
 }
 
 // A level more.
-pub fn add(s: Sizes, m: usize, d: SparseOneNnd) -> Sizes
+pub(crate) fn add(s: Sizes, m: usize, d: SparseOneNnd) -> Sizes
     requires { ⌜ Small s d ⌝ }
     ensures { λ r. ⌜ r ≡ added s m d ⌝ }
 {
@@ -85,7 +95,7 @@ pub fn add(s: Sizes, m: usize, d: SparseOneNnd) -> Sizes
 }
 
 // A refusal, with counts of nothing.
-pub fn refuse(v: Verdict) -> Plan
+pub(crate) fn refuse(v: Verdict) -> Plan
     ensures { λ r. ⌜ r .verdict ≡ v ⌝ }
 {
     Plan {
@@ -99,7 +109,7 @@ pub fn refuse(v: Verdict) -> Plan
 }
 
 // A string of 64 bits or fewer.
-pub fn last(m: usize) -> Plan
+pub(crate) fn last(m: usize) -> Plan
     ensures { λ r. ⌜ (r .verdict ≡ Verdict.Made) × (r .counts ≡ aloneOf m) × (r .sizes ≡ sizesOf m) ⌝ }
 {
     Plan {
@@ -152,7 +162,7 @@ fn plan_family(scr: &mut [u64], lay: Layout) -> Family
 }
 
 // At most `left` pioneer levels above the string that scratch holds; the next one is `level`. Scratch is zero after it.
-pub fn plan_levels(scr: &mut [u64], lay: Layout, left: usize, level: usize) -> Plan
+pub(crate) fn plan_levels(scr: &mut [u64], lay: Layout, left: usize, level: usize) -> Plan
     requires { ⌜ Standing (now scr) lay × (left ≤ 4) × (left + level ≤ 5) ⌝ }
     ensures { λ r. ⌜ PlanIs r left level (textOf (now (scr .entry)) lay) × (now (scr .exit) ≡ replicate (length (now (scr .entry))) 0) ⌝ }
 {

@@ -1,13 +1,8 @@
 // The writing of a string's levels into areas 0 to 3, of which each has room.
-ghost use mathlib.Core.Path.{_≡_};
-ghost use Prim.Native.Nat.{_<_, _≤_};
-ghost use lib.ListN.{length, replicate};
-ghost use Rattle.pioneers.specs.Scratch.{textOf};
-ghost use Rattle.parentheses.specs.Plans.{Standing};
 ghost use Rattle.parentheses.specs.Writes.{heldAt, Putting, PutIs, Writing, WrittenIs};
 use crate::copies::copy_words;
-use crate::levels::Sizes;
 use crate::plans::Family;
+use crate::plans::Sizes;
 use crate::plans::add;
 use pioneers::compact::compact;
 use pioneers::flags::Layout;
@@ -42,7 +37,7 @@ fn write_family(
 }
 
 // The string, and then its pioneer levels, at most `left` of them, past `at`. Scratch is zero after it.
-pub fn write_levels(
+pub(crate) fn write_levels(
     scr: &mut [u64],
     lay: Layout,
     left: usize,

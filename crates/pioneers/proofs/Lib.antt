@@ -2,6 +2,7 @@ pub mod Parts
 pub mod Fit
 pub mod Ruled
 pub mod Nodes
+pub mod Builds
 pub mod Places
 pub mod Rooted
 pub mod Runs

@@ -3,3 +3,4 @@ pub mod Placed
 pub mod Turn
 pub mod Scratch
 pub mod Keep
+pub mod Node

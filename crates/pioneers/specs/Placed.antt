@@ -1,13 +1,13 @@
 -- The string of a level list in scratch, and what is refused before it stands there.
 use mathlib.Core.Path.{_≡_}
-use mathlib.Core.Bool.{Bool}
+use mathlib.Core.Bool.{Bool, true}
 use mathlib.Core.Option.{Option, none, some}
 use mathlib.Core.List.{List, [], _∷_, _++_}
 use Prim.Native.Nat.{ℕ, _+_, _*_, _-_, _≤_}
 use lib.Dec.{leb}
 use lib.ListN.{length, replicate}
 use Rattle.meaning.specs.Answers.{Refusal}
-use Rattle.meaning.specs.Bits.{pack}
+use Rattle.meaning.specs.Bits.{pack, stored}
 use Rattle.meaning.specs.String.{string}
 use Rattle.meaning.specs.List as list
 use Rattle.meaning.specs.List.{offending, greatest}
@@ -63,3 +63,9 @@ pub record Ready (vs ws : List ℕ) : Type 0 where
   pub few : length vs ≤ greatest
   pub room : 2 * length vs + 2 ≤ 64 * length ws
   pub zeros : ws ≡ replicate (length ws) 0
+
+-- what the nodes are written behind: the root's open, in words that were all zero
+pub record Opened (vs ws : List ℕ) : Type 0 where
+  pub zeros : List ℕ
+  pub ready : Ready vs zeros
+  pub root : ws ≡ stored zeros 0 true

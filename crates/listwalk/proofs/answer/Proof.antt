@@ -1,5 +1,5 @@
 -- `listwalk::answer` meets its contract. Assumes nothing.
-use Rattle.listwalk.proofs.Told.{counts-all}
+use Rattle.listwalk.proofs.Answered.{all-there, none-there}
 use borrow.Author.Needs.{needs}
 use Rattle.listwalk.proofs.answer.Statement.{statement}
 use Rattle.listwalk.proofs.answer.Tie as tie
@@ -17,30 +17,15 @@ same-length : tie.Need-same-length
 same-length c = search needs
 
 returns : tie.Need-returns
-returns c = search needs
+returns c = search (none-there, needs)
 
 same-length-2 : tie.Need-same-length-2
 same-length-2 c = search needs
 
 returns-2 : tie.Need-returns-2
-returns-2 c = search needs
-
-same-length-3 : tie.Need-same-length-3
-same-length-3 c = search needs
-
-returns-3 : tie.Need-returns-3
-returns-3 c = search (counts-all, needs)
+returns-2 c = search (all-there, needs)
 
 pub answer-spec : {M : Type 1} → statement M
 answer-spec =
     tie.close
-    (tie.spec
-    walk-requires
-    enum-known-p
-    enum-told
-    same-length
-    returns
-    same-length-2
-    returns-2
-    same-length-3
-    returns-3)
+    (tie.spec walk-requires enum-known-p enum-told same-length returns same-length-2 returns-2)

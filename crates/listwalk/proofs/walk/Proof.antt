@@ -1,6 +1,8 @@
 -- `listwalk::walk` meets its contract. Assumes nothing.
-use mathlib.Core.Path.{sym}
-use lib.Seq.{length-take-le}
+use mathlib.Core.Path.{sym, _∙_}
+use native.Mathlib.Omega.{arith}
+use Rattle.listing.proofs.Putting.{spelt}
+use Rattle.listing.proofs.Told.{told-list, told-bad, never-room}
 use borrow.Author.Needs.{needs}
 use Rattle.listwalk.proofs.walk.Statement.{statement}
 use Rattle.listwalk.proofs.walk.Tie as tie
@@ -17,23 +19,26 @@ read-list-requires c κs = search needs
 enum-known-r : tie.Need-enum-known-r
 enum-known-r c = search needs
 
-returns : tie.Need-returns
-returns c = search needs
-
 array-share-prefix-levels : tie.Need-array-share-prefix-levels
-array-share-prefix-levels c = search needs
+array-share-prefix-levels c =
+    omega (arith, told-list (c .before .before .before .before .before .before .before .before .before .before .args .text .now) _ _ (omega arith) (omega arith) (c .before .before .before .before .before .read-list .result) _ _ (c .before .before .before .before .before .read-list .ensures) _ (c .before .r .given .1) .few)
 
 slice-aggregate-listed : tie.Need-slice-aggregate-listed
-slice-aggregate-listed c = sym (length-take-le _ _ (search needs))
+slice-aggregate-listed c =
+    sym (told-list (c .before .before .before .before .before .before .before .before .before .before .before .args .text .now) _ _ (omega arith) (omega arith) (c .before .before .before .before .before .before .read-list .result) _ _ (c .before .before .before .before .before .before .read-list .ensures) _ (c .before .before .r .given .1) .levels)
 
 array-share-prefix-labels : tie.Need-array-share-prefix-labels
-array-share-prefix-labels c = search needs
+array-share-prefix-labels c =
+    omega (arith, told-list (c .before .before .before .before .before .before .before .before .before .before .before .args .text .now) _ _ (omega arith) (omega arith) (c .before .before .before .before .before .before .read-list .result) _ _ (c .before .before .before .before .before .before .read-list .ensures) _ (c .before .before .r .given .1) .few)
 
 slice-aggregate-listed-2 : tie.Need-slice-aggregate-listed-2
-slice-aggregate-listed-2 c = sym (length-take-le _ _ (search needs))
+slice-aggregate-listed-2 c =
+    sym (told-list (c .before .before .before .before .before .before .before .before .before .before .before .before .args .text .now) _ _ (omega arith) (omega arith) (c .before .before .before .before .before .before .before .read-list .result) _ _ (c .before .before .before .before .before .before .before .read-list .ensures) _ (c .before .before .before .r .given .1) .labels)
 
 listed-requires : tie.Need-listed-requires
-listed-requires c κs = search needs
+listed-requires c κs =
+    let t = told-list (c .before .before .before .before .before .before .before .before .before .before .before .before .before .args .text .now) _ _ (omega arith) (omega arith) (c .before .before .before .before .before .before .before .before .read-list .result) _ _ (c .before .before .before .before .before .before .before .before .read-list .ensures) _ (c .before .before .before .before .r .given .1) in
+    (t .levels ∙ sym (t .labels), omega (arith, t .levels, t .few))
 
 enum-known-r-2 : tie.Need-enum-known-r-2
 enum-known-r-2 c = search needs
@@ -47,17 +52,20 @@ enum-told c = search needs
 same-length : tie.Need-same-length
 same-length c = search needs
 
-returns-2 : tie.Need-returns-2
-returns-2 c = search needs
+returns : tie.Need-returns
+returns c =
+    spelt (told-list (c .before .before .before .before .before .before .before .before .before .before .before .before .before .before .before .before .args .text .now) _ _ (omega arith) (omega arith) (c .before .before .before .before .before .before .before .before .before .before .before .read-list .result) _ _ (c .before .before .before .before .before .before .before .before .before .before .before .read-list .ensures) _ (c .before .before .before .before .before .before .before .r .given .1) .text) (c .before .before .listed .ensures)
 
 same-length-2 : tie.Need-same-length-2
 same-length-2 c = search needs
 
-returns-3 : tie.Need-returns-3
-returns-3 c = search needs
+returns-2 : tie.Need-returns-2
+returns-2 c =
+    spelt (told-bad (c .before .before .before .before .before .before .before .before .before .before .before .before .before .before .args .text .now) _ _ (omega arith) (omega arith) (c .before .before .before .before .before .before .before .before .before .read-list .result) _ _ (c .before .before .before .before .before .before .before .before .before .read-list .ensures) _ (c .before .before .before .before .before .r2 .given .1)) (c .before .before .write-refusal .ensures)
 
-returns-4 : tie.Need-returns-4
-returns-4 c = search needs
+returns-3 : tie.Need-returns-3
+returns-3 c =
+    absurd (never-room (c .before .before .before .before .before .before .before .before .before .args .text .now) _ _ (omega arith) (omega arith) (c .before .before .before .before .read-list .result) _ _ (c .before .before .before .before .read-list .ensures) (c .enum-told .given .1))
 
 pub walk-spec : {M : Type 1} → statement M
 walk-spec =
@@ -67,7 +75,6 @@ walk-spec =
     slice-aggregate-read-list-2
     read-list-requires
     enum-known-r
-    returns
     array-share-prefix-levels
     slice-aggregate-listed
     array-share-prefix-labels
@@ -77,7 +84,7 @@ walk-spec =
     write-refusal-requires
     enum-told
     same-length
-    returns-2
+    returns
     same-length-2
-    returns-3
-    returns-4)
+    returns-2
+    returns-3)

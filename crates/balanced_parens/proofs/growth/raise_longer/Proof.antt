@@ -60,7 +60,7 @@ same-length-5 : tie.Need-same-length-5
 same-length-5 c = search needs
 
 returns : tie.Need-returns
-returns c = search (longer-raised, needs)
+returns c = search (longer-raised, c .before .before .before .before .before .before .before .before .before .before .before .before .before .before .before .before .before .before .before .before .before .place-longer .ensures, c .before .before .before .before .before .before .before .before .before .before .before .before .before .before .before .before .before .enum-told .given, c .before .before .before .before .before .before .before .before .before .before .before .raise .ensures, needs)
 
 same-length-6 : tie.Need-same-length-6
 same-length-6 c = search needs

@@ -1,0 +1,6 @@
+pub mod Replies
+pub mod Putting
+pub mod Called
+pub mod Made
+pub mod Toured
+pub mod Agree
