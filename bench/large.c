@@ -586,7 +586,7 @@ static int run_recorded(const char *path, Asked asked)
     return 0;
 }
 
-/* What a plain run does, or a quick one, which stays below a few seconds. */
+/* What a plain run does, or a quick one, of some seconds. */
 static int run_all(const char *recorded, int quick)
 {
     Asked some = {quick ? 20 : 1, quick ? 50 : 500};
@@ -597,9 +597,9 @@ static int run_all(const char *recorded, int quick)
     run_growth(quick);
     run_rooms(33000);
     run_fulls(quick);
+    run_many();
     if (quick)
         return 0;
-    run_many();
     for (Shape s = 0; s < SHAPES; s++)
         run_shape(s, OSCJARDUM_NODES_MOST, (Asked){100, 50}, 0);
     return 0;
