@@ -18,6 +18,10 @@ def scans(at):
     return [line('scan', name, at) for name in KINDS]
 
 
+def pushed(bits):
+    return [line('string push', bits)] if bits else []
+
+
 def places(chance, length):
     """Places and ranks at, before and past the ends."""
     found = {0, 1, length, length + 1, length + 64, *chance.sample(NEAR_LAST, 3)} | {abs(length - k) for k in (1, 2, 64)}
@@ -30,7 +34,7 @@ def places(chance, length):
 
 def edited(bits, edits, at, words):
     """Pushed bit by bit, then edited. The edits are such that the Rust does not stray: no resize to a multiple of 64 or over a one."""
-    lines = [areas([words, 0, 0, 0, 0, 0]), line('string push', bits)]
+    lines = [areas([words, 0, 0, 0, 0, 0])] + pushed(bits)
     lines += [EDITS[name].format(*values) for name, *values in edits]
     first = len(lines)
     lines += questions(at) + list(SHOWN) + scans(at)
@@ -122,10 +126,10 @@ def scanned(chance):
     """LinearFid of the Rust. Its rank_one and pred_one at the last place of 64 bits add one to it."""
     bits = random_bits(chance, size(chance))
     at = [i for i in places(chance, len(bits)) if i != LAST]
-    lines = [areas([words_of(len(bits)), 0, 0, 0, 0, 0]), line('string push', bits)] + scans(at)
+    lines = [areas([words_of(len(bits)), 0, 0, 0, 0, 0])] + pushed(bits) + scans(at)
 
     return Case('plain scan', lines, f"scan\t{''.join(map(str, bits))}\t{text(at)}",
-                lambda answers, fields, build: inside(at, len(bits), answers[2:], fields))
+                lambda answers, fields, build: inside(at, len(bits), answers[-len(KINDS):], fields))
 
 
 # Where the Rust strays or has nothing

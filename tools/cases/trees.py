@@ -233,7 +233,8 @@ def wrong_list(chance):
         if levels:
             at = chance.randrange(len(levels))
             before = levels[at - 1] if at else -1
-            levels[at] = chance.choice([before + 2, before + 1, 2 ** 32 - 1, chance.getrandbits(32), before + chance.randint(2, 9)])
+            wrong = chance.choice([before + 2, before + 1, 2 ** 32 - 1, chance.getrandbits(32), before + chance.randint(2, 9)])
+            levels[at] = min(wrong, 2 ** 32 - 1)
     if chance.random() < 0.4:
         labels = chance.choice([labels[:-1], labels + [7], [], labels[:len(labels) // 2]])
     sizes = [max(0, size + chance.choice([-1, 0, 0, 3])) for size in needs(levels)]
