@@ -4,3 +4,4 @@ pub mod Called
 pub mod Made
 pub mod Toured
 pub mod Agree
+pub mod Again
