@@ -1,7 +1,8 @@
 """Good areas damaged, then asked everything and grown; areas and records of any content."""
 
+from model.dictionary import encoded
 from model.string import packed
-from model.tree import parts_of, string_of
+from model.tree import laid_out, parts_of, string_of
 
 from . import lists
 from .case import LAST, NEAR_LAST, Case, areas, line, puts
@@ -13,11 +14,11 @@ TOPS = (LAST, 255, 65_535, LAST, 2 ** 32 - 1)
 class Standing:
     """Areas 0 to 4 and a record, to be changed and then laid out by `put` and `record`."""
 
-    def __init__(self, chance, levels, spare):
-        parts, record = parts_of(string_of(levels))
+    def __init__(self, chance, made, spare):
+        parts, record = made
         self.areas = [part + [0] * chance.choice(spare) for part in parts]
-        self.areas.append([label(chance) for _ in levels] + [0] * chance.choice(spare))
-        self.record, self.scratch = record.numbers(), 2 * len(levels) + 4
+        self.areas.append([label(chance) for _ in range(record.nodes)] + [0] * chance.choice(spare))
+        self.record, self.scratch = record.numbers(), 2 * record.nodes + 4
 
     def lines(self):
         found = [areas([len(area) for area in self.areas] + [self.scratch])]
@@ -98,7 +99,7 @@ def sizes(chance):
 def random(chance):
     """A good tree, a few elements or counts changed."""
     levels = lists.many_flags(chance, 2) if chance.random() < 0.2 else lists.any_list(chance, sizes(chance))
-    standing = Standing(chance, levels, [0, 0, 1, 3])
+    standing = Standing(chance, parts_of(string_of(levels)), [0, 0, 1, 3])
     damage(chance, standing)
     return asked(chance, 'damaged tree', standing)
 
@@ -106,7 +107,7 @@ def random(chance):
 def other_string(chance):
     """The string of one list under the pioneers of another."""
     n = chance.randint(31, 140)
-    standing = Standing(chance, lists.any_list(chance, n), [2, 4])
+    standing = Standing(chance, parts_of(string_of(lists.any_list(chance, n))), [2, 4])
     words = packed(string_of(lists.any_list(chance, n)))
     standing.areas[0][:len(words)] = words[:len(standing.areas[0])]
     if chance.random() < 0.5:
@@ -117,7 +118,7 @@ def other_string(chance):
 def any_content(chance):
     """Numbers by chance in small areas, under a record that fits them."""
     n = chance.randint(0, 40)
-    standing = Standing(chance, [0] * n, [0])
+    standing = Standing(chance, parts_of(string_of([0] * n)), [0])
     bits = [chance.choice([0, 64, 65, 66, chance.randint(0, 200)]) for _ in range(5)]
     words = [chance.getrandbits(64) | chance.getrandbits(64) * chance.getrandbits(1) for _ in range(sum(-(-b // 64) for b in bits))]
     data = [[chance.choice([0, 1, 1, 2, 3, chance.randint(0, 255)]) for _ in range(chance.randint(0, 9))] for _ in range(4)]
@@ -131,6 +132,26 @@ def any_content(chance):
     return asked(chance, 'areas of any content', standing)
 
 
+def leaning(chance, length):
+    """Bits with more opens at the front and more closes at the end, of any length, also an odd one."""
+    return [int(chance.random() < (0.9, 0.5, 0.1)[3 * i // length]) for i in range(length)]
+
+
+def made_up(chance):
+    """Strings and flags that go together in length alone: the steps come to an answer on most ways, and it is no match."""
+    strings, dictionaries = [leaning(chance, chance.choice([65, 65, 66, 67, 128, 129, 130, 192, 257]))], []
+    while len(strings[-1]) >= 65 and len(strings) < 5:
+        length = len(strings[-1])
+        size = chance.choice([2, 3, 5, 12, length // 2, length - 1])
+        flags = sorted({*chance.sample(range(length), size), chance.choice([0, 1, 60]), length - 1})
+        dictionaries.append(encoded(flags))
+        strings.append([1] + leaning(chance, len(flags) - 1))
+    standing = Standing(chance, laid_out(strings, dictionaries), [0, 0, 2])
+    if chance.random() < 0.3:
+        damage(chance, standing)
+    return asked(chance, 'made-up pioneers', standing)
+
+
 # Four pioneer levels: more nodes than the program can build, so that its areas are put
 
 def four_levels(chance, count):
@@ -140,7 +161,7 @@ def four_levels(chance, count):
     bits = string_of(levels)
     opens = [place for place, bit in enumerate(bits) if bit]
     at = sorted(chance.sample(opens, count))
-    standing = Standing(chance, levels, [0])
+    standing = Standing(chance, parts_of(bits), [0])
     standing.areas[4], standing.record[0], standing.scratch = [5] * 9, 9, 20
     lines = standing.lines()
     first = len(lines)

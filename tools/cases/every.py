@@ -8,7 +8,7 @@ from . import damage, dictionaries, growth, strings, trees, words
 RANDOM = [(3, words.random), (4, strings.random), (2, strings.scanned), (6, strings.lent), (4, dictionaries.random),
           (8, dictionaries.any_content), (5, dictionaries.damaged), (6, trees.random), (3, trees.short), (3, trees.wrong_list),
           (3, growth.random), (1, growth.from_empty), (3, growth.short), (2, growth.record_of), (10, damage.random),
-          (3, damage.other_string), (5, damage.any_content)]
+          (3, damage.other_string), (5, damage.any_content), (8, damage.made_up)]
 
 
 def fixed(chance):

@@ -88,11 +88,15 @@ def tower(bits):
 
 def parts_of(bits):
     """What areas 0 to 3 hold, without the zeros behind, and the record."""
-    strings, dictionaries = tower(bits)
+    return laid_out(*tower(bits))
+
+
+def laid_out(strings, dictionaries):
+    """The string first, then each pioneer level in turn, with no gaps."""
     parts = [[word for string in strings for word in packed(string)]]
     parts += [[number for made in dictionaries for number in made[kind]] for kind in range(3)]
     record = Record()
-    record.nodes = len(bits) // 2 - 1
+    record.nodes = len(strings[0]) // 2 - 1
     record.bits[:len(strings)] = map(len, strings)
     for level, (data, middles, larges) in enumerate(dictionaries):
         record.bytes[level] = len(data)
