@@ -1,0 +1,80 @@
+-- `fill::fill16` is safe, and ends.
+use mathlib.Core.Path.{_≡_}
+use Prim.Native.Nat.{_-_}
+use lib.ListN.{length}
+use borrow.Author.Needs.{needs}
+use Rattle.asking.proofs.fill.fill16.Statement.{statement}
+use Rattle.asking.proofs.fill.fill16.Tie as tie
+
+abbrev Inv-loop : tie.InvT-loop
+Inv-loop line area₀ from s₀ i₀ area s i = length area ≡ length area₀
+
+abbrev μ-loop : tie.MeasureT-loop
+μ-loop line area₀ from s₀ i₀ area s i = length area₀ - i
+
+loop-holds : tie.Need-loop-holds Inv-loop μ-loop
+loop-holds c = search needs
+
+element-requires : tie.Need-element-requires Inv-loop μ-loop
+element-requires c κs = search needs
+
+enum-known-item : tie.Need-enum-known-item Inv-loop μ-loop
+enum-known-item c = search needs
+
+stopped-requires : tie.Need-stopped-requires Inv-loop μ-loop
+stopped-requires c κs = search needs
+
+same-length : tie.Need-same-length Inv-loop μ-loop
+same-length c = search needs
+
+returns : tie.Need-returns Inv-loop μ-loop
+returns c = search needs
+
+narrow16-requires : tie.Need-narrow16-requires Inv-loop μ-loop
+narrow16-requires c κs = search needs
+
+mul-area : tie.Need-mul-area Inv-loop μ-loop
+mul-area c = search needs
+
+slice-write-area : tie.Need-slice-write-area Inv-loop μ-loop
+slice-write-area c = search needs
+
+add-i : tie.Need-add-i Inv-loop μ-loop
+add-i c = search needs
+
+loop-less : tie.Need-loop-less Inv-loop μ-loop
+loop-less c = search needs
+
+loop-again : tie.Need-loop-again Inv-loop μ-loop
+loop-again c = search needs
+
+at-end-requires : tie.Need-at-end-requires Inv-loop μ-loop
+at-end-requires c κs = search needs
+
+same-length-2 : tie.Need-same-length-2 Inv-loop μ-loop
+same-length-2 c = search needs
+
+returns-2 : tie.Need-returns-2 Inv-loop μ-loop
+returns-2 c = search needs
+
+pub fill16-spec : {M : Type 1} → statement M
+fill16-spec =
+    tie.close
+    (tie.spec
+    Inv-loop
+    μ-loop
+    loop-holds
+    element-requires
+    enum-known-item
+    stopped-requires
+    same-length
+    returns
+    narrow16-requires
+    mul-area
+    slice-write-area
+    add-i
+    loop-less
+    loop-again
+    at-end-requires
+    same-length-2
+    returns-2)
