@@ -1,4 +1,4 @@
-"""The tree's part of the program `answers` over the C interface: the same lines in, the same lines out (docs/ANSWERS.md).
+"""The tree's part of the program `answers` over the C interface: the same lines in, the same lines out (docs/CASES.md).
 
 Lines of the dictionary, the bit string and the word by themselves are not asked here; their answer is NOT_ASKED.
 """
