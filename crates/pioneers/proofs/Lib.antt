@@ -11,3 +11,4 @@ pub mod Marks
 pub mod Marked
 pub mod Keeps
 pub mod Trims
+pub mod Agree
