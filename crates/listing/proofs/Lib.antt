@@ -4,3 +4,4 @@ pub mod Putting
 pub mod Pieces
 pub mod Nodes
 pub mod Told
+pub mod Agree
