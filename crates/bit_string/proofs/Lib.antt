@@ -2,5 +2,5 @@ pub mod Part
 pub mod Behind
 pub mod Ahead
 pub mod Clear
-pub mod Cursor
+pub mod Stepped
 pub mod Agree

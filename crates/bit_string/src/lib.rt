@@ -7,6 +7,7 @@ ghost use Rattle.ops.specs.Said.{saidGot, saidCount, saidSpot, saidDone};
 ghost use Rattle.bit_string.specs.Said.{saidStep};
 
 mod find;
+pub mod one_indices;
 mod parts;
 
 use find::next_one;
@@ -199,22 +200,22 @@ pub fn resize(words: &mut [u64], n: usize, m: usize) -> Done
 }
 
 // The place from which the ones are sought on, by value.
-pub struct OneIndices {
+pub struct Cursor {
     pub next: usize,
 }
 
 // A one and the cursor behind it.
 pub enum Step {
-    One(usize, OneIndices),
+    One(usize, Cursor),
     End,
     Refused(Refusal),
 }
 
-impl OneIndices {
+impl Cursor {
     pub fn new() -> Self
         ensures { λ r. ⌜ r .next ≡ 0 ⌝ }
     {
-        OneIndices { next: 0 }
+        Cursor { next: 0 }
     }
 
     pub fn step(self, words: &[u64], n: usize) -> Step
@@ -223,7 +224,7 @@ impl OneIndices {
         match succ_one(words, n, self.next) {
             Spot::At(j) => {
                 let next = j + 1;
-                Step::One(j, OneIndices { next })
+                Step::One(j, Cursor { next })
             }
             Spot::Nothing => Step::End,
             Spot::Refused(r) => Step::Refused(r),

@@ -10,7 +10,7 @@ mod load;
 use asked::asked;
 use asked::counted;
 use asked::word_of;
-use bit_string::OneIndices;
+use bit_string::Cursor;
 use bit_string::Step;
 use bit_string::byte_size;
 use bit_string::rank_one;
@@ -154,10 +154,10 @@ fn word_field(text: &[u8], words: &[u64], n: usize, r: Run) -> Run {
 struct Met {
     place: u64,
     ok: bool,
-    rest: OneIndices,
+    rest: Cursor,
 }
 
-fn stepped(c: OneIndices, words: &[u64], n: usize) -> Met {
+fn stepped(c: Cursor, words: &[u64], n: usize) -> Met {
     match c.step(words, n) {
         Step::One(j, rest) => Met {
             place: j as u64,
@@ -167,12 +167,12 @@ fn stepped(c: OneIndices, words: &[u64], n: usize) -> Met {
         Step::End => Met {
             place: 0,
             ok: false,
-            rest: OneIndices { next: n },
+            rest: Cursor { next: n },
         },
         Step::Refused(_) => Met {
             place: 0,
             ok: false,
-            rest: OneIndices { next: n },
+            rest: Cursor { next: n },
         },
     }
 }
@@ -180,7 +180,7 @@ fn stepped(c: OneIndices, words: &[u64], n: usize) -> Met {
 // All ones that the cursor meets, `many` of them.
 fn ones_field(text: &[u8], words: &[u64], n: usize, many: usize, r: Run) -> Run {
     let mut run = r;
-    let mut c = OneIndices::new();
+    let mut c = Cursor::new();
     let mut k: usize = 0;
     while k < many {
         let m = stepped(c, words, n);
@@ -201,7 +201,7 @@ fn ones_field(text: &[u8], words: &[u64], n: usize, many: usize, r: Run) -> Run 
 // The digest of that field.
 fn ones_digest(words: &[u64], n: usize, many: usize) -> Digest {
     let mut d = no_bytes();
-    let mut c = OneIndices::new();
+    let mut c = Cursor::new();
     let mut k: usize = 0;
     while k < many {
         let m = stepped(c, words, n);

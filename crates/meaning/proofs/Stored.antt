@@ -8,8 +8,8 @@ use native.Mathlib.Nat.{mod-lt, zero-add}
 use native.Mathlib.Decide.{ℕ-discrete, decLe, decLt}
 use native.Mathlib.Omega.{arith}
 use lib.Dec.{eqb}
-use lib.ListN.{length, getD, set, take, replicate, length-set, List·getD-eq-default}
-use lib.Seq.{ext-getD, getD-set-same, getD-set-other, getD-take, length-take-le, set-out}
+use lib.ListN.{length, getD, set, take, drop, replicate, length-set, List·getD-eq-default}
+use lib.Seq.{ext-getD, getD-set-same, getD-set-other, getD-take, getD-drop, length-take-le, set-out}
 use Rattle.meaning.specs.Bits.{bit, asBit, withBit, tab, bitAt, bitsOf, stored, cleared}
 use Rattle.meaning.proofs.Bit.{bit-lt, as-lt, as-eqb, eqb-as, bit-none, bit-set, bit-below, bit-above, with-lt, number-ext}
 use Rattle.meaning.proofs.Tab.{Below, length-tab, getD-tab, tab-snoc, tab-add, tab-same, tab-const}
@@ -35,6 +35,14 @@ pub bitAt-past : (ws : List ℕ) (i : ℕ) → 64 * length ws ≤ i → bitAt ws
 unfolding bitAt
 bitAt-past ws i h =
     ap (λ (x : ℕ). eqb (bit x (i % 64)) 1) (List·getD-eq-default ws 0 (omega arith)) ∙ ap (λ (x : ℕ). eqb x 1) (bit-none (i % 64))
+
+-- a bit of the words from b on
+pub bitAt-drop : (ws : List ℕ) (b j : ℕ) → bitAt (drop b ws) j ≡ bitAt ws (64 * b + j)
+unfolding bitAt
+bitAt-drop ws b j =
+    let d : b + j / 64 ≡ (64 * b + j) / 64 = omega arith in
+    let m : j % 64 ≡ (64 * b + j) % 64 = omega arith in
+    ap (λ (x : ℕ). eqb (bit x (j % 64)) 1) (getD-drop b ws (j / 64) 0) ∙ ap₂ (λ (x y : ℕ). eqb (bit (getD ws x 0) y) 1) d m
 
 -- words are equal by their bits
 pub word-ext : (a b : List ℕ) (v w : ℕ) → getD a v 0 < 2 ^ 64 → getD b w 0 < 2 ^ 64

@@ -12,12 +12,12 @@ use Rattle.meaning.specs.Bits.{bitAt, bitsOf, stored, pack}
 use Rattle.meaning.specs.Pioneers.{keep}
 use Rattle.meaning.proofs.If.{if-true, if-false}
 use Rattle.meaning.proofs.Tab.{Below}
-use Rattle.meaning.proofs.Stored.{length-stored, stored-below, stored-here, stored-other, length-bits, bits-at}
+use Rattle.meaning.proofs.Stored.{bitAt-drop, length-stored, stored-below, stored-here, stored-other, length-bits, bits-at}
 use Rattle.pioneers.specs.Pick.{pick}
 use Rattle.pioneers.specs.Scratch.{textOf, flagsOf, fitsIn}
 use Rattle.pioneers.specs.Keep.{Keeping, keeping, keepTurn, trimmed, compactIn}
 use Rattle.pioneers.specs.declared.flags.Layout.{Layout}
-use Rattle.pioneers.proofs.Parts.{bitAt-drop, drop-stored, take-stored-le, part-is, part-new, Fits, fits-are, text-length, text-bit, flags-length, flags-bit}
+use Rattle.pioneers.proofs.Parts.{drop-stored, take-stored-le, part-is, part-new, Fits, fits-are, text-length, text-bit, flags-length, flags-bit}
 
 module _ (scr : List ℕ) (lay : Layout) (i at : ℕ) (f : Bool) (q : f ≡ bitAt scr (64 * lay .flags + i)) where
   pub keep-flagged : f ≡ true → (b : Bool) → b ≡ bitAt scr (64 * lay .text + i) → (exit : List ℕ) → exit ≡ stored scr (64 * lay .text + at) b

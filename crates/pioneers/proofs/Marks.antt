@@ -15,7 +15,7 @@ use Rattle.meaning.specs.Bits.{bitAt, opens, closes, pack}
 use Rattle.meaning.specs.Pioneers.{flags}
 use Rattle.meaning.proofs.If.{clash}
 use Rattle.meaning.proofs.Tab.{Below, opens-closes}
-use Rattle.meaning.proofs.Stored.{bitAt-past}
+use Rattle.meaning.proofs.Stored.{bitAt-drop, bitAt-past}
 use Rattle.meaning.proofs.Pack.{is-pack, pack-nil, pack-bit}
 use Rattle.meaning.proofs.String.{Walk}
 use Rattle.meaning.proofs.Balanced.{walk-even}
@@ -30,7 +30,7 @@ use Rattle.pioneers.specs.Turn.{turned, scanOf, marked, settled, turnOf,
 use Rattle.pioneers.specs.Scratch.{textOf, withFlags, Bare}
 use Rattle.pioneers.specs.declared.flags.Layout.{Layout}
 use Rattle.pioneers.specs.declared.flags.Scan.{Scan}
-use Rattle.pioneers.proofs.Parts.{lt-or-ge, bitAt-drop, bit-kept, zeros-at, Fits, fits-are, text-length, text-bit, drop-split}
+use Rattle.pioneers.proofs.Parts.{lt-or-ge, bit-kept, zeros-at, Fits, fits-are, text-length, text-bit, drop-split}
 use Rattle.pioneers.proofs.Pass.{Pend, Inv, MarkFacts, mark-facts, some-open, next}
 use Rattle.pioneers.proofs.Runs.{last-outermost}
 

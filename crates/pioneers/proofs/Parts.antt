@@ -6,26 +6,17 @@ use mathlib.Core.Logic.{_⊎_, inl, inr}
 use Prim.Native.Nat.{ℕ, _+_, _-_, _*_, _/_, _%_, _≤_, _<_}
 use native.Mathlib.Decide.{decLt}
 use native.Mathlib.Omega.{arith}
-use lib.Dec.{eqb}
 use lib.ListN.{length, getD, set, take, drop, replicate, length-drop, length-replicate, getD-replicate, List·getD-eq-default, drop-of-length-le, take-append-drop}
 use lib.Seq.{slice, take-all, length-take-le, drop-append-le, getD-drop, drop-set-add, drop-set-lt, take-set-le}
 use borrow.Author.Tests.{leb-true}
-use Rattle.meaning.specs.Bits.{bit, asBit, withBit, bitAt, stored}
+use Rattle.meaning.specs.Bits.{asBit, withBit, bitAt, stored}
 use Rattle.meaning.proofs.If.{both}
-use Rattle.meaning.proofs.Stored.{length-bits, bits-at, bits-same}
+use Rattle.meaning.proofs.Stored.{bitAt-drop, length-bits, bits-at, bits-same}
 use Rattle.pioneers.specs.Scratch.{textOf, flagsOf, fitsIn}
 use Rattle.pioneers.specs.declared.flags.Layout.{Layout}
 
 pub lt-or-ge : (a b : ℕ) → (a < b) ⊎ (b ≤ a)
 lt-or-ge a b = elim (decLt a b) [ yes h ↦ inl h | no h ↦ inr (omega arith) ]
-
--- a bit of the words from b on
-pub bitAt-drop : (ws : List ℕ) (b j : ℕ) → bitAt (drop b ws) j ≡ bitAt ws (64 * b + j)
-unfolding bitAt
-bitAt-drop ws b j =
-    let d : b + j / 64 ≡ (64 * b + j) / 64 = omega arith in
-    let m : j % 64 ≡ (64 * b + j) % 64 = omega arith in
-    ap (λ (x : ℕ). eqb (bit x (j % 64)) 1) (getD-drop b ws (j / 64) 0) ∙ ap₂ (λ (x y : ℕ). eqb (bit (getD ws x 0) y) 1) d m
 
 -- a bit goes by its word
 pub bit-kept : (a b : List ℕ) (w j : ℕ) → getD a ((64 * w + j) / 64) 0 ≡ getD b ((64 * w + j) / 64) 0 → bitAt a (64 * w + j) ≡ bitAt b (64 * w + j)

@@ -12,6 +12,7 @@ use borrow.Author.Tests.{eq-eqb, ne-eqb}
 use Rattle.meaning.specs.Bits.{opens, tab, bitAt, bitsOf}
 use Rattle.meaning.specs.Dictionary.{bump, endOf, blockCount}
 use Rattle.meaning.proofs.If.{if-true, if-false}
+use Rattle.meaning.proofs.Stored.{bitAt-drop}
 use Rattle.meaning.proofs.Tab.{opens-append, opens-closes}
 use Rattle.sparse_one_nnd.specs.Blocks.{lastOf}
 
@@ -44,6 +45,22 @@ block-tab ws n b k e =
     ∙ sym (ap (take 256) (drop-tab (bitAt ws) (256 * b) 0 n)
     ∙ take-tab (bitAt ws) 256 (0 + 256 * b) (n - 256 * b)
     ∙ ap (λ (j : ℕ). tab (bitAt ws) j (min 256 (n - 256 * b))) (zero-add (256 * b)))
+
+-- the block's own words
+tab-shift : (f g : ℕ → Bool) (d i k : ℕ) → ((j : ℕ) → f j ≡ g (d + j)) → tab f i k ≡ tab g (d + i) k
+unfolding tab
+tab-shift f g d i zero h = refl
+tab-shift f g d i (suc k) h =
+    let u : d + suc i ≡ suc (d + i) = omega arith in
+    ap₂ (λ (b : Bool) (l : List Bool). b ∷ l) (h i) (tab-shift f g d (suc i) k h ∙ ap (λ (j : ℕ). tab g j k) u)
+
+pub block-words : (ws : List ℕ) (n b k : ℕ) → k ≡ min 256 (n - 256 * b) → bitsOf (drop (4 * b) ws) k ≡ take 256 (drop (256 * b) (bitsOf ws n))
+unfolding bitsOf
+block-words ws n b k e =
+    let u : 256 * b + 0 ≡ 256 * b = omega arith in
+    tab-shift (bitAt (drop (4 * b) ws)) (bitAt ws) (256 * b) 0 k
+    (λ j. let v : 64 * (4 * b) + j ≡ 256 * b + j = omega arith in bitAt-drop ws (4 * b) j ∙ ap (bitAt ws) v)
+    ∙ ap (λ (j : ℕ). tab (bitAt ws) j k) u ∙ block-tab ws n b k e
 
 pub block-count : (ws : List ℕ) (n b k c : ℕ) → k ≡ min 256 (n - 256 * b) → c ≡ opens (tab (bitAt ws) (256 * b) k)
     → c ≡ opens (take 256 (drop (256 * b) (bitsOf ws n)))

@@ -10,6 +10,7 @@ pub mod Stretches
 pub mod Planning
 pub mod Plans
 pub mod Stores
+pub mod Offsets
 pub mod Writes
 pub mod Agree
 pub mod Plainly

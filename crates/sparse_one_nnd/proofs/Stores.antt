@@ -1,28 +1,25 @@
 -- The second pass: runs of stores past o entries of each kind, and what the loops know.
 use mathlib.Core.Path.{_≡_, refl, sym, ap, ap₂, _∙_}
-use mathlib.Core.Bool.{Bool, true, false}
+use mathlib.Core.Bool.{Bool}
 use mathlib.Core.List.{List, [], _∷_, _++_, append-nil}
 use Prim.Native.Nat.{ℕ, zero, suc, _+_, _*_, _-_, _/_, _%_, _≤_, _<_, min}
 use native.Mathlib.Decide.{decLe}
 use native.Mathlib.Nat.{add-zero}
 use native.Mathlib.Numerals.{add-one}
 use native.Mathlib.Omega.{arith}
-use lib.ListN.{length, take, drop, set, length-append, length-set, length-take}
+use lib.ListN.{length, take, drop, set, length-append, length-set, length-take, length-drop}
 use lib.Seq.{sets, length-sets}
 use borrow.Author.Tests.{eq-eqb, ne-eqb}
-use Rattle.meaning.specs.Bits.{opens, tab, places, asBit, bitAt, bitsOf}
+use Rattle.meaning.specs.Bits.{opens, places, bitsOf}
 use Rattle.meaning.specs.Dictionary.{block, bytesOf, bytePos, onesTo, pairUp, largePos, largeRank, middlePos, middleRank, dictWith}
 use Rattle.meaning.proofs.If.{if-true, if-false}
-use Rattle.meaning.proofs.Tab.{opens-append, length-tab, tab-add}
 use Rattle.meaning.proofs.Rank.{length-places, bytes-add, pos-le, ones-le, length-pairUp}
 use Rattle.meaning.proofs.Stored.{length-bits}
 use Rattle.sparse_one_nnd.specs.declared.SparseOneNnd.{SparseOneNnd}
-use Rattle.sparse_one_nnd.specs.declared.first_pass.Stretch.{Stretch}
 use Rattle.sparse_one_nnd.specs.declared.second_pass.Writing.{Writing}
-use Rattle.sparse_one_nnd.specs.Blocks.{StretchIs}
-use Rattle.sparse_one_nnd.specs.Writing.{blockAt, Writable, largeState, largeArea, middleArea, passed, Near, OffsetFits, OffsetsFit, BlockFits}
-use Rattle.sparse_one_nnd.proofs.Blocks.{opens-le, block-tab, next-ones}
-use Rattle.sparse_one_nnd.proofs.Stretches.{stretch-opens, stretch-places, places-append}
+use Rattle.sparse_one_nnd.specs.Writing.{blockAt, Writable, largeState, largeArea, middleArea, passed, Near, BlockFits}
+use Rattle.sparse_one_nnd.specs.Offsets.{OffsetsFit}
+use Rattle.sparse_one_nnd.proofs.Blocks.{opens-le, block-words, next-ones}
 
 -- runs of stores
 sets-append : (l : List ℕ) (i : ℕ) (vs ws : List ℕ) → sets (sets l i vs) (i + length vs) ws ≡ sets l i (vs ++ ws)
@@ -31,105 +28,31 @@ sets-append l i (v ∷ vs) ws =
     let u : i + suc (length vs) ≡ suc i + length vs = omega arith in
     ap (λ (k : ℕ). sets (sets (set l i v) (suc i) vs) k ws) u ∙ sets-append (set l i v) (suc i) vs ws
 
-sets-more : (l : List ℕ) (i k : ℕ) (vs ws : List ℕ) → k ≡ i + length vs → sets (sets l i vs) k ws ≡ sets l i (vs ++ ws)
+pub sets-more : (l : List ℕ) (i k : ℕ) (vs ws : List ℕ) → k ≡ i + length vs → sets (sets l i vs) k ws ≡ sets l i (vs ++ ws)
 sets-more l i k vs ws e = ap (λ (j : ℕ). sets (sets l i vs) j ws) e ∙ sets-append l i vs ws
 
--- an offset
-module _ (B : List ℕ) (one : Bool) (x at : ℕ) where
-  pub offset-next : one ≡ true → at + 1 ≡ at + asBit one
-  offset-next e = ap (λ (b : Bool). at + asBit b) (sym e)
+-- a block: its count and then its offsets, from its own words
+module _ (ws : List ℕ) (n b k : ℕ) (e : k ≡ min 256 (n - 256 * b)) (own : List ℕ) (p : own ≡ drop (4 * b) ws) where
+  own-bits : bitsOf own k ≡ blockAt ws n b
+  own-bits = ap (λ (l : List ℕ). bitsOf l k) p ∙ block-words ws n b k e
 
-  pub offset-same : one ≡ false → at ≡ at + asBit one
-  offset-same e = sym (add-zero at) ∙ ap (λ (b : Bool). at + asBit b) (sym e)
-
-  pub offset-put : (v : ℕ) → one ≡ true → v ≡ x → set B at v ≡ sets B at (places x (one ∷ []))
-  unfolding places
-  offset-put v e f = ap (set B at) f ∙ ap (λ (b : Bool). sets B at (places x (b ∷ []))) (sym e)
-
-  pub offset-not : one ≡ false → B ≡ sets B at (places x (one ∷ []))
-  unfolding places
-  offset-not e = ap (λ (b : Bool). sets B at (places x (b ∷ []))) (sym e)
-
--- offsets, stretch by stretch
-pub record Offsets (f : ℕ → Bool) (from k at : ℕ) (B₀ B : List ℕ) (next i : ℕ) : Type 0 where
-  pub within : i ≤ k
-  pub where-to : next ≡ at + opens (tab f from i)
-  pub content : B ≡ sets B₀ at (places 0 (tab f from i))
-
-pub off-start : (f : ℕ → Bool) (from k at : ℕ) (B : List ℕ) → Offsets f from k at B B at 0
-unfolding opens tab places
-off-start f from k at B = record { within = omega arith; where-to = omega arith; content = refl }
-
-tab-mono : (f : ℕ → Bool) (from i k : ℕ) → i ≤ k → opens (tab f from i) ≤ opens (tab f from k)
-tab-mono f from i k h =
-    let u : k ≡ i + (k - i) = omega arith in
-    omega (arith, ap (λ (j : ℕ). opens (tab f from j)) u, ap opens (tab-add f from i (k - i)), opens-append (tab f from i) (tab f (from + i) (k - i)))
-
-module _ {f : ℕ → Bool} {from k at : ℕ} {B₀ B : List ℕ} {next i : ℕ} (o : Offsets f from k at B₀ B next i) where
-  pub off-length : length B ≡ length B₀
-  off-length = ap length (o .content) ∙ length-sets B₀ at (places 0 (tab f from i))
-
-  module _ (s : Stretch) (h : StretchIs f (from + i) (k - i) s) where
-    ones-to : opens (tab f from (i + s .places)) ≡ opens (tab f from i) + asBit (s .one)
-    ones-to =
-        ap opens (tab-add f from i (s .places)) ∙ opens-append (tab f from i) (tab f (from + i) (s .places))
-        ∙ ap (λ (j : ℕ). opens (tab f from i) + j) (stretch-opens f (from + i) (k - i) s h)
-
-    places-to : places 0 (tab f from (i + s .places)) ≡ places 0 (tab f from i) ++ places (i + (s .places - 1)) (s .one ∷ [])
-    places-to =
-        let u : 0 + length (tab f from i) ≡ i = omega (arith, length-tab f from i) in
-        ap (places 0) (tab-add f from i (s .places)) ∙ places-append 0 (tab f from i) (tab f (from + i) (s .places))
-        ∙ ap (λ (l : List ℕ). places 0 (tab f from i) ++ l)
-        (ap (λ (j : ℕ). places j (tab f (from + i) (s .places))) u ∙ stretch-places f (from + i) (k - i) s h i)
-
-    -- where a one is, there is room for it
-    pub off-fits : k ≤ 256 → i < k → at + opens (tab f from k) ≤ length B₀ → OffsetFits B (s .one) (i + (s .places - 1)) next
-    off-fits small t r =
-        record {
-          small = omega (arith, h .within, h .some-places);
-          within = omega (arith, o .where-to, off-length, tab-mono f from i k (o .within));
-          room = λ e.
-              omega (
-                arith,
-                o .where-to,
-                off-length,
-                tab-mono f from (i + s .places) k (omega (arith, h .within)),
-                ones-to,
-                ap asBit e,
-              );
-        }
-
-    pub off-on : (r : ℕ) (C : List ℕ) → i < k → r ≡ next + asBit (s .one) → C ≡ sets B next (places (i + (s .places - 1)) (s .one ∷ []))
-        → Offsets f from k at B₀ C r (i + s .places)
-    off-on r C t e d =
-        record {
-          within = omega (arith, h .within);
-          where-to = omega (arith, e, o .where-to, ones-to);
-          content =
-              d ∙ ap (λ (l : List ℕ). sets l next (places (i + (s .places - 1)) (s .one ∷ []))) (o .content)
-              ∙ sets-more B₀ at next (places 0 (tab f from i)) (places (i + (s .places - 1)) (s .one ∷ []))
-              (omega (arith, o .where-to, length-places 0 (tab f from i)))
-              ∙ ap (sets B₀ at) (sym places-to);
-        }
-
-  pub off-end : k ≤ i → B ≡ sets B₀ at (places 0 (tab f from k))
-  off-end h = o .content ∙ ap (λ (j : ℕ). sets B₀ at (places 0 (tab f from j))) (omega (arith, o .within))
-
--- a block: its count and then its offsets
-module _ (ws : List ℕ) (n b k : ℕ) (e : k ≡ min 256 (n - 256 * b)) where
-  pub block-fits : (at c : ℕ) (B C : List ℕ) → n ≤ 2097152 → 256 * b ≤ n → at + 1 + opens (blockAt ws n b) ≤ length B → C ≡ set B at c
-      → OffsetsFit ws C (256 * b) k (at + 1)
-  block-fits at c B C few here room q =
-      record { few = omega arith; small = omega arith; room = omega (arith, ap length q, length-set B at c, ap opens (block-tab ws n b k e)) }
+  pub block-fits : (at c : ℕ) (B C : List ℕ) → n ≤ 64 * length ws → 256 * b ≤ n → at + 1 + opens (blockAt ws n b) ≤ length B → C ≡ set B at c
+      → OffsetsFit own C k (at + 1)
+  block-fits at c B C inside here room q =
+      record {
+        inside = omega (arith, ap length p, length-drop (4 * b) ws);
+        small = omega arith;
+        room = omega (arith, ap length q, length-set B at c, ap opens own-bits);
+      }
 
   pub block-put : (at c : ℕ) (B C E : List ℕ) → c ≡ opens (blockAt ws n b) → C ≡ set B at c
-      → E ≡ sets C (at + 1) (places 0 (tab (bitAt ws) (256 * b) k)) → E ≡ sets B at (block (blockAt ws n b))
+      → E ≡ sets C (at + 1) (places 0 (bitsOf own k)) → E ≡ sets B at (block (blockAt ws n b))
   unfolding block
   block-put at c B C E f q w =
       w
-      ∙ ap (λ (l : List ℕ). sets l (at + 1) (places 0 (tab (bitAt ws) (256 * b) k))) q
-      ∙ ap (λ (i : ℕ). sets (set B at c) i (places 0 (tab (bitAt ws) (256 * b) k))) (add-one at)
-      ∙ ap₂ (λ (j : ℕ) (o : List ℕ). sets (set B at j) (suc at) o) (f ∙ sym (length-places 0 (blockAt ws n b))) (ap (places 0) (block-tab ws n b k e))
+      ∙ ap (λ (l : List ℕ). sets l (at + 1) (places 0 (bitsOf own k))) q
+      ∙ ap (λ (i : ℕ). sets (set B at c) i (places 0 (bitsOf own k))) (add-one at)
+      ∙ ap₂ (λ (j : ℕ) (o : List ℕ). sets (set B at j) (suc at) o) (f ∙ sym (length-places 0 (blockAt ws n b))) (ap (places 0) own-bits)
 
 -- a block more
 bytes-next : (l : List Bool) (b : ℕ) → bytesOf (b + 1) l ≡ bytesOf b l ++ block (take 256 (drop (256 * b) l))
@@ -327,6 +250,7 @@ module _ {ws : List ℕ} {n blocks : ℕ} {o : SparseOneNnd} {B₀ M₀ L₀ B M
     block-of =
         let g = large-state w t e in
         record {
+          inside = p .inside;
           few = p .few;
           here = omega (arith, p .within);
           short = p .short b;

@@ -7,10 +7,10 @@ use native.Mathlib.Nat.{add-zero, not-suc-le-zero}
 use native.Mathlib.Omega.{arith}
 use lib.Count.{under, trailingZeros}
 use lib.Dec.{eqb}
-use lib.ListN.{length, getD}
+use lib.ListN.{getD}
 use lib.Pow.{shr-shr}
 use borrow.Author.Tests.{eq-eqb, ne-eqb}
-use Rattle.meaning.specs.Bits.{opens, tab, places, bit, asBit, bitAt}
+use Rattle.meaning.specs.Bits.{opens, tab, bit, asBit, bitAt}
 use Rattle.meaning.proofs.Tab.{opens-append, length-tab, tab-snoc, tab-add}
 use Rattle.sparse_one_nnd.specs.declared.first_pass.Stretch.{Stretch}
 use Rattle.sparse_one_nnd.specs.Blocks.{StretchIs}
@@ -86,23 +86,6 @@ no-ones f at (suc p) h =
     let u : f at ≡ false = ap f (sym (add-zero at)) ∙ h 0 (omega arith) in
     rw (u, opens) (no-ones f (suc at) p (λ j k. let v : suc at + j ≡ at + suc j = omega arith in ap f v ∙ h (suc j) (omega arith)))
 
-no-places : (f : ℕ → Bool) (at p i : ℕ) → ((j : ℕ) → j < p → f (at + j) ≡ false) → places i (tab f at p) ≡ []
-unfolding tab places
-no-places f at zero i h = refl
-no-places f at (suc p) i h =
-    let u : f at ≡ false = ap f (sym (add-zero at)) ∙ h 0 (omega arith) in
-    rw (u, places) (no-places f (suc at) p (suc i) (λ j k. let v : suc at + j ≡ at + suc j = omega arith in ap f v ∙ h (suc j) (omega arith)))
-
-pub places-append : (i : ℕ) (s t : List Bool) → places i (s ++ t) ≡ places i s ++ places (i + length s) t
-unfolding places
-places-append i [] t = let u : i ≡ i + 0 = omega arith in ap (λ (k : ℕ). places k t) u
-places-append i (true ∷ s) t =
-    let u : suc i + length s ≡ i + suc (length s) = omega arith in
-    ap (λ (l : List ℕ). i ∷ l) (places-append (suc i) s t ∙ ap (λ (k : ℕ). places (suc i) s ++ places k t) u)
-places-append i (false ∷ s) t =
-    let u : suc i + length s ≡ i + suc (length s) = omega arith in
-    places-append (suc i) s t ∙ ap (λ (k : ℕ). places (suc i) s ++ places k t) u
-
 module _ (f : ℕ → Bool) (at left : ℕ) (s : Stretch) (h : StretchIs f at left s) where
   split : tab f at (s .places) ≡ tab f at (s .places - 1) ++ (s .one ∷ [])
   split =
@@ -114,17 +97,11 @@ module _ (f : ℕ → Bool) (at left : ℕ) (s : Stretch) (h : StretchIs f at le
   one-opens true = refl
   one-opens false = refl
 
-  pub stretch-opens : opens (tab f at (s .places)) ≡ asBit (s .one)
+  stretch-opens : opens (tab f at (s .places)) ≡ asBit (s .one)
   stretch-opens =
       ap opens split ∙ opens-append (tab f at (s .places - 1)) (s .one ∷ [])
       ∙ ap₂ _+_ (no-ones f at (s .places - 1) (λ j k. h .zeros j (omega arith))) (one-opens (s .one))
       ∙ omega arith
-
-  pub stretch-places : (i : ℕ) → places i (tab f at (s .places)) ≡ places (i + (s .places - 1)) (s .one ∷ [])
-  stretch-places i =
-      ap (places i) split ∙ places-append i (tab f at (s .places - 1)) (s .one ∷ [])
-      ∙ ap₂ (λ (l : List ℕ) (k : ℕ). l ++ places (i + k) (s .one ∷ [])) (no-places f at (s .places - 1) i (λ j k. h .zeros j (omega arith)))
-      (length-tab f at (s .places - 1))
 
 -- the ones of k places, stretch by stretch
 pub record Adding (f : ℕ → Bool) (from k c i : ℕ) : Type 0 where

@@ -70,6 +70,7 @@ module _ {ws : List ℕ} {n blocks ones : ℕ} (q : Counted ws n blocks ones) (o
         unfolding NoFull
         writable =
             record {
+              inside = q .held .inside;
               few = q .held .few;
               short = no-full (bitsOf ws n) (ap (λ (k : ℕ). fullBlock (k / 256 + 1) 0 (bitsOf ws n)) (length-bits ws n) ∙ q .narrow);
               within = counts-blocks q;

@@ -1,11 +1,10 @@
 -- The second pass: the state between two blocks, and what its steps write past o entries of each kind.
-use mathlib.Core.Path.{_≡_}
 use mathlib.Core.Bool.{Bool, true, false}
 use mathlib.Core.List.{List}
 use Prim.Native.Nat.{ℕ, _+_, _*_, _-_, _/_, _%_, _≤_, _<_}
 use lib.Dec.{eqb}
 use lib.ListN.{length, take, drop, set}
-use Rattle.meaning.specs.Bits.{opens, tab, bitAt, bitsOf}
+use Rattle.meaning.specs.Bits.{opens, bitsOf}
 use Rattle.meaning.specs.Dictionary.{bytesOf}
 use Rattle.sparse_one_nnd.specs.declared.SparseOneNnd.{SparseOneNnd}
 use Rattle.sparse_one_nnd.specs.declared.second_pass.Writing.{Writing}
@@ -16,6 +15,7 @@ blockAt ws n b = take 256 (drop (256 * b) (bitsOf ws n))
 
 -- no block is full, and there is room if there is a block
 pub record Writable (ws : List ℕ) (n blocks : ℕ) (o : SparseOneNnd) (B M L : List ℕ) : Type 0 where
+  pub inside : n ≤ 64 * length ws
   pub few : n ≤ 2097152
   pub short : (b : ℕ) → opens (blockAt ws n b) < 256
   pub within : 256 * blocks ≤ n + 255
@@ -51,20 +51,9 @@ pub record Near (o b : ℕ) (s : Writing) (M : List ℕ) : Type 0 where
   pub rank : s .base ≤ s .rank
   pub rank-near : s .rank ≤ s .base + 256 * (b % 256)
 
--- a stretch's one fits
-pub record OffsetFits (B : List ℕ) (one : Bool) (x at : ℕ) : Type 0 where
-  pub small : x < 256
-  pub within : at ≤ length B
-  pub room : one ≡ true → at < length B
-
--- the offsets of k places fit
-pub record OffsetsFit (ws B : List ℕ) (from k at : ℕ) : Type 0 where
-  pub few : from + k ≤ 2097152
-  pub small : k ≤ 256
-  pub room : at + opens (tab (bitAt ws) from k) ≤ length B
-
 -- a block fits
 pub record BlockFits (ws : List ℕ) (n o b : ℕ) (s : Writing) (B : List ℕ) : Type 0 where
+  pub inside : n ≤ 64 * length ws
   pub few : n ≤ 2097152
   pub here : 256 * b ≤ n
   pub short : opens (blockAt ws n b) < 256

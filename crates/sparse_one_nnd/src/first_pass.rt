@@ -29,7 +29,7 @@ pub fn lesser(a: usize, b: usize) -> usize
 }
 
 // The places of a word from one on: up to its next one, or to its end, but no more than `left`.
-pub fn next_stretch(ws: &[u64], at: usize, left: usize) -> Stretch
+fn next_stretch(ws: &[u64], at: usize, left: usize) -> Stretch
     requires { ⌜ 0 < left ⌝ }
     ensures { λ r. ⌜ StretchIs (bitAt (now (ws .entry))) at left r ⌝ }
 {

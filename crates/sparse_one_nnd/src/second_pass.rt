@@ -1,16 +1,18 @@
 // The second pass of a build: the entries and the blocks, written past `from` entries of each kind.
 ghost use mathlib.Core.Path.{_≡_};
 ghost use Prim.Native.Nat.{_+_, _*_, _/_, _<_};
-ghost use mathlib.Core.List.{[], _∷_};
 ghost use lib.ListN.{length, set};
 ghost use lib.Seq.{sets};
-ghost use Rattle.meaning.specs.Bits.{opens, tab, places, asBit, bitAt, bitsOf};
+ghost use Rattle.meaning.specs.Bits.{opens, places, bitsOf};
 ghost use Rattle.meaning.specs.Dictionary.{block, dictWith};
-ghost use Rattle.sparse_one_nnd.specs.Writing.{blockAt, Writable, largeState, largeArea, middleArea, passed, Near, OffsetFits, OffsetsFit, BlockFits};
+ghost use Rattle.sparse_one_nnd.specs.Writing.{blockAt, Writable, largeState, largeArea, middleArea, passed, Near, BlockFits};
+ghost use Rattle.sparse_one_nnd.specs.Offsets.{metOne, offsetPut, OffsetFits, OffsetsFit};
+ghost use Rattle.bit_string.specs.Said.{saidStep};
 use crate::SparseOneNnd;
 use crate::first_pass::block_ones;
 use crate::first_pass::lesser;
-use crate::first_pass::next_stretch;
+use bit_string::Step;
+use bit_string::one_indices::OneIndices;
 
 // Where the pass is: byte position and rank, and those of the large entry.
 pub struct Writing {
@@ -73,29 +75,30 @@ fn put_middle(middles: &mut [u16], o: usize, b: usize, s: Writing)
     }
 }
 
-// Offset x, if there is a one: written at byte `at`; the next byte.
-fn put_offset(bytes: &mut [u8], one: bool, x: usize, at: usize) -> usize
-    requires { ⌜ OffsetFits (now bytes) one x at ⌝ }
-    ensures { λ r. ⌜ (r ≡ at + asBit one) × (now (bytes .exit) ≡ sets (now (bytes .entry)) at (places x (one ∷ []))) ⌝ }
+// The offset of the one that a step met, written at byte `at`; whether it met one.
+fn put_offset(bytes: &mut [u8], s: Step, at: usize) -> bool
+    requires { ⌜ OffsetFits (now bytes) at (saidStep s) ⌝ }
+    ensures { λ r. ⌜ (r ≡ metOne (saidStep s)) × (now (bytes .exit) ≡ offsetPut (now (bytes .entry)) at (saidStep s)) ⌝ }
 {
-    if one {
-        bytes[at] = narrow8(x);
-        return at + 1;
+    match s {
+        Step::One(x, _) => {
+            bytes[at] = narrow8(x);
+            true
+        }
+        Step::End => false,
+        Step::Refused(_) => false,
     }
-    at
 }
 
-// The offsets of k places from a place on, from byte `at` on.
-fn put_offsets(ws: &[u64], bytes: &mut [u8], from: usize, k: usize, at: usize)
-    requires { ⌜ OffsetsFit (now ws) (now bytes) from k at ⌝ }
-    ensures { λ _. ⌜ now (bytes .exit) ≡ sets (now (bytes .entry)) at (places 0 (tab (bitAt (now (ws .entry))) from k)) ⌝ }
+// The offsets of the ones of a block's k places, one after another, from byte `at` on.
+fn put_offsets(ws: &[u64], bytes: &mut [u8], k: usize, at: usize)
+    requires { ⌜ OffsetsFit (now ws) (now bytes) k at ⌝ }
+    ensures { λ _. ⌜ now (bytes .exit) ≡ sets (now (bytes .entry)) at (places 0 (bitsOf (now (ws .entry)) k)) ⌝ }
 {
+    let mut ones = OneIndices::new(ws, k);
     let mut next = at;
-    let mut i: usize = 0;
-    while i < k {
-        let s = next_stretch(ws, from + i, k - i);
-        next = put_offset(bytes, s.one, i + (s.places - 1), next);
-        i += s.places;
+    while put_offset(bytes, ones.next(), next) {
+        next += 1;
     }
 }
 
@@ -120,7 +123,8 @@ fn put_block(ws: &[u64], n: usize, bytes: &mut [u8], o: usize, b: usize, s: Writ
     put_count(bytes, o + at, c);
     let from = SparseOneNnd::SMALL_SIZE * b;
     let k = lesser(SparseOneNnd::SMALL_SIZE, n - from);
-    put_offsets(ws, bytes, from, k, o + at + 1);
+    let first = 4 * b;
+    put_offsets(&ws[first..], bytes, k, o + at + 1);
     Writing {
         at: at + 1 + c,
         rank: rank + c,

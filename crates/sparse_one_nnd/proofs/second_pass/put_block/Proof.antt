@@ -1,7 +1,8 @@
 -- `put_block` meets its contract: the count, then the offsets.
 use mathlib.Core.Path.{ap}
-use Prim.Native.Nat.{_+_}
+use Prim.Native.Nat.{_+_, _*_}
 use Rattle.sparse_one_nnd.specs.Writing.{passed}
+use Rattle.sparse_one_nnd.proofs.Parts.{past-rest}
 use Rattle.sparse_one_nnd.proofs.Stores.{block-fits, block-put}
 use borrow.Author.Needs.{needs}
 use Rattle.sparse_one_nnd.proofs.second_pass.put_block.Statement.{statement}
@@ -25,6 +26,21 @@ sub-lesser c = search needs
 lesser-requires : tie.Need-lesser-requires
 lesser-requires c κs = search needs
 
+mul-first : tie.Need-mul-first
+mul-first c = search needs
+
+mul-put-offsets : tie.Need-mul-put-offsets
+mul-put-offsets c = search needs
+
+sub-put-offsets : tie.Need-sub-put-offsets
+sub-put-offsets c = search needs
+
+part-put-offsets-start : tie.Need-part-put-offsets-start
+part-put-offsets-start c = search needs
+
+part-put-offsets-end : tie.Need-part-put-offsets-end
+part-put-offsets-end c = search needs
+
 add-put-offsets : tie.Need-add-put-offsets
 add-put-offsets c = search needs
 
@@ -32,22 +48,22 @@ add-put-offsets-2 : tie.Need-add-put-offsets-2
 add-put-offsets-2 c = search needs
 
 put-offsets-requires : tie.Need-put-offsets-requires
-put-offsets-requires c κs = let a = c .before .before .before .before .before .before .before .before .before .args in let p = c .before .before .before .before .before .before .before .before .before .pre in block-fits (a .ws .now) (a .n) (a .b) (c .before .lesser .result) (c .before .lesser .ensures) (a .o + a .s .at) (c .before .before .before .before .before .before .block-ones .result) (a .bytes .now) _ (p .few) (p .here) (p .room) (c .before .before .before .before .put-count .ensures)
+put-offsets-requires c κs = let a = c .before .before .before .before .before .before .before .before .before .before .args in let p = c .before .before .before .before .before .before .before .before .before .before .pre in block-fits (a .ws .now) (a .n) (a .b) (c .before .before .lesser .result) (c .before .before .lesser .ensures) _ (past-rest (a .ws .now) (4 * a .b)) (a .o + a .s .at) (c .before .before .before .before .before .before .before .block-ones .result) (a .bytes .now) _ (p .inside) (p .here) (p .room) (c .before .before .before .before .before .put-count .ensures)
 
-add-t17 : tie.Need-add-t17
-add-t17 c = search needs
+add-t18 : tie.Need-add-t18
+add-t18 c = search needs
 
-add-t20 : tie.Need-add-t20
-add-t20 c = search needs
+add-t26 : tie.Need-add-t26
+add-t26 c = search needs
 
-add-t21 : tie.Need-add-t21
-add-t21 c = search needs
+add-t25 : tie.Need-add-t25
+add-t25 c = search needs
 
 same-length : tie.Need-same-length
 same-length c = search needs
 
 returns : tie.Need-returns
-returns c = let a = c .before .before .before .before .before .before .before .before .before .before .before .before .args in (ap (passed (a .s)) (c .before .before .before .before .before .before .before .before .before .block-ones .ensures), block-put (a .ws .now) (a .n) (a .b) (c .before .before .before .before .lesser .result) (c .before .before .before .before .lesser .ensures) (a .o + a .s .at) (c .before .before .before .before .before .before .before .before .before .block-ones .result) (a .bytes .now) _ _ (c .before .before .before .before .before .before .before .before .before .block-ones .ensures) (c .before .before .before .before .before .before .before .put-count .ensures) (c .before .before .put-offsets .ensures))
+returns c = let a = c .before .before .before .before .before .before .before .before .before .before .before .before .before .args in (ap (passed (a .s)) (c .before .before .before .before .before .before .before .before .before .before .block-ones .ensures), block-put (a .ws .now) (a .n) (a .b) (c .before .before .before .before .before .lesser .result) (c .before .before .before .before .before .lesser .ensures) _ (past-rest (a .ws .now) (4 * a .b)) (a .o + a .s .at) (c .before .before .before .before .before .before .before .before .before .before .block-ones .result) (a .bytes .now) _ _ (c .before .before .before .before .before .before .before .before .before .before .block-ones .ensures) (c .before .before .before .before .before .before .before .before .put-count .ensures) (c .before .before .put-offsets .ensures))
 
 pub put-block-spec : {M : Type 1} → statement M
 put-block-spec =
@@ -59,11 +75,16 @@ put-block-spec =
     mul-from
     sub-lesser
     lesser-requires
+    mul-first
+    mul-put-offsets
+    sub-put-offsets
+    part-put-offsets-start
+    part-put-offsets-end
     add-put-offsets
     add-put-offsets-2
     put-offsets-requires
-    add-t17
-    add-t20
-    add-t21
+    add-t18
+    add-t26
+    add-t25
     same-length
     returns)

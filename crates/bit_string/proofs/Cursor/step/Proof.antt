@@ -1,9 +1,9 @@
--- `OneIndices::step` meets its contract.
+-- `Cursor::step` meets its contract.
 use native.Mathlib.Omega.{arith}
-use Rattle.bit_string.proofs.Cursor.{step-lt, step-one, step-end, step-refused}
+use Rattle.bit_string.proofs.Stepped.{step-lt, step-one, step-end, step-refused}
 use borrow.Author.Needs.{needs}
-use Rattle.bit_string.proofs.OneIndices.step.Statement.{statement}
-use Rattle.bit_string.proofs.OneIndices.step.Tie as tie
+use Rattle.bit_string.proofs.Cursor.step.Statement.{statement}
+use Rattle.bit_string.proofs.Cursor.step.Tie as tie
 
 succ-one-requires : tie.Need-succ-one-requires
 succ-one-requires c κs = search needs
