@@ -13,7 +13,7 @@ use asking::items::next_item;
 use asking::put::put_end;
 use asking::put::put_entry;
 use asking::read::behind;
-use bit_string::OneIndices;
+use bit_string::Cursor;
 use bit_string::Step;
 use ops::Count;
 use ops::Done;
@@ -196,7 +196,7 @@ pub fn edit_line(
 
 // `string ones`: the places that OneIndices tells, at most as many as there are bits.
 pub fn ones_line(out: &mut [u8], at: usize, words: &[u64], n: usize) -> usize {
-    let mut c = OneIndices::new();
+    let mut c = Cursor::new();
     let mut o = at;
     let mut left = n;
     while 0 < left {
