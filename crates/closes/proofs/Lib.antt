@@ -4,4 +4,3 @@ mod Rooms
 pub mod Asked
 mod Flags
 pub mod Agree
-pub mod Built

@@ -3,4 +3,3 @@ mod Links
 mod Asking
 mod Summing
 pub mod Agree
-pub mod Built

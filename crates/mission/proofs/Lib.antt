@@ -1,0 +1,2 @@
+mod Five
+pub mod Mission
