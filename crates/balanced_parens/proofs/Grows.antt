@@ -1,5 +1,5 @@
 -- The ways out of `raise_longer` and of `grow`.
-use mathlib.Core.Path.{_≡_, refl, sym, ap, _∙_}
+use mathlib.Core.Path.{_≡_, refl, sym, ap, _∙_, subst}
 use mathlib.Core.Bool.{true, false}
 use mathlib.Core.Logic.{_⊎_, inl, inr}
 use mathlib.Core.Option.{Option, none, some}
@@ -16,7 +16,7 @@ use Rattle.meaning.specs.Areas.{Held, Rooms, written, counted}
 use Rattle.meaning.specs.Refusals.{check, checks, firstOf}
 use Rattle.meaning.specs.Build.{Lent, Tree, roomsOf}
 use Rattle.meaning.specs.Growth.{levelsOf, grown, grownTower, firstBits, bitsIn, soundIn, sound, growRefusal, grow}
-use Rattle.meaning.proofs.If.{if-none, if-some}
+use Rattle.meaning.proofs.If.{bit, if-none, if-some}
 use Rattle.meaning.proofs.Accepted.{check-none, first-none}
 use Rattle.meaning.proofs.Stored.{length-bits}
 use Rattle.meaning.proofs.FromString.{count-of}
@@ -32,7 +32,7 @@ use Rattle.parentheses.specs.Writes.{heldAt}
 use Rattle.parentheses.specs.Raises.{Raising, raising, raiseIn, Raises, saidRaised, stringChecks}
 use Rattle.parentheses.specs.declared.levels.Raised.{Raised}
 use Rattle.balanced_parens.specs.Said.{refusalOf, isMade, said, refusedOf}
-use Rattle.balanced_parens.specs.Areas.{lentAt, after, stagedIn}
+use Rattle.balanced_parens.specs.Areas.{lentAt, after, stagedIn, labelledIf}
 use Rattle.balanced_parens.specs.Contract.{GrowsTo, Retold, Staged}
 use Rattle.balanced_parens.specs.declared.answer.Built.{Built}
 use Rattle.balanced_parens.specs.declared.answer.Verdict.{Verdict}
@@ -154,7 +154,7 @@ module _ (w b m g u s : List ℕ) (c : Counts) (v : ℕ) (o : Built) (w′ b′ 
   staged =
       q .outcome ∙ ap stage (sym (grow-parted w (c .nodes) (bitsIn (treeIn c)) v (roomsOf lent)))
 
-  pub grow-refused : (x : ℕ) → isMade (o .verdict) ≡ false → GrowsTo c v x lent (lentAt w′ b′ m′ g′ u s′) o
+  grow-refused : (x : ℕ) → isMade (o .verdict) ≡ false → GrowsTo c v x lent (lentAt w′ b′ m′ g′ u s′) o
   unfolding grow stage
   grow-refused x f = record { outcome = go (which (growRefusal (treeIn c) lent v)); counts = q .counts }
     where
@@ -174,25 +174,7 @@ module _ (w b m g u s : List ℕ) (c : Counts) (v : ℕ) (o : Built) (w′ b′ 
         go (inl e) = e
         go (inr e) = absurd (made-tree o f (e .0) (ap (λ (y : Raising). y .reply) (staged ∙ if-some _ _ (e .0) (e .1))))
 
-    pub grow-room : c .nodes < length u
-    unfolding growRefusal sound roomsOf treeIn stringChecks
-    grow-room =
-        let a = first-none _ _ (sym (grow-parted w (c .nodes) (bitsIn (treeIn c)) v (roomsOf lent)) ∙ none-refuses) in
-        let d = first-none _ _ (first-none _ _ (first-none _ _ (first-none _ _ (first-none _ _ (a .1) .1) .1) .1) .1) in
-        leb-true (suc (c .nodes)) (length u) (check-none _ _ _ (first-none _ _ (d .1) .0))
-
-    -- the longer list is not too long
-    pub grow-few : c .nodes < greatest
-    unfolding growRefusal sound roomsOf treeIn
-    grow-few =
-        let a = first-none _ _ (sym (grow-parted w (c .nodes) (bitsIn (treeIn c)) v (roomsOf lent)) ∙ none-refuses) in
-        omega (
-          arith,
-          longer-listed w (c .nodes) (bitsIn (treeIn c)) v (length s) (a .0) .few,
-          longer-count w (c .nodes) (bitsIn (treeIn c)) v (length s) (a .0),
-        )
-
-    pub grow-made : (x : ℕ) (u′ : List ℕ) → u′ ≡ set u (c .nodes) x → GrowsTo c v x lent (lentAt w′ b′ m′ g′ u′ s′) o
+    grow-made : (x : ℕ) (u′ : List ℕ) → u′ ≡ set u (c .nodes) x → GrowsTo c v x lent (lentAt w′ b′ m′ g′ u′ s′) o
     unfolding grow stage new treeIn
     grow-made x u′ l =
         record {
@@ -203,3 +185,11 @@ module _ (w b m g u s : List ℕ) (c : Counts) (v : ℕ) (o : Built) (w′ b′ 
               ∙ sym (if-none _ _ none-refuses);
           counts = q .counts;
         }
+
+  pub grow-labelled : (x : ℕ) (u′ : List ℕ) → u′ ≡ labelledIf (isMade (o .verdict)) u (c .nodes) x → GrowsTo c v x lent (lentAt w′ b′ m′ g′ u′ s′) o
+  grow-labelled x u′ l = go (bit (isMade (o .verdict)))
+    where
+      go : (isMade (o .verdict) ≡ true) ⊎ (isMade (o .verdict) ≡ false) → GrowsTo c v x lent (lentAt w′ b′ m′ g′ u′ s′) o
+      go (inl f) = grow-made f x u′ (l ∙ ap (λ y. labelledIf y u (c .nodes) x) f)
+      go (inr f) =
+          subst (λ y. GrowsTo c v x lent (lentAt w′ b′ m′ g′ y s′) o) (sym (l ∙ ap (λ y. labelledIf y u (c .nodes) x) f)) (grow-refused x f)

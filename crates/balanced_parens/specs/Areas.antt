@@ -1,10 +1,10 @@
 -- The six lent areas, and what stands in them when the level builder is done.
 use mathlib.Core.Path.{_≡_}
-use mathlib.Core.Bool.{Bool}
+use mathlib.Core.Bool.{Bool, true, false}
 use mathlib.Core.Option.{Option, none, some}
 use mathlib.Core.List.{List, _∷_}
 use Prim.Native.Nat.{ℕ}
-use lib.ListN.{length, replicate}
+use lib.ListN.{length, set, replicate}
 use Rattle.meaning.specs.Answers.{Refusal, Answer, is, refused}
 use Rattle.meaning.specs.Family.{tower}
 use Rattle.meaning.specs.Areas.{Held, written, counted}
@@ -29,6 +29,11 @@ stagedIn early l n a labels k =
           raising (is (record { nodes = n; counts = counted (tower 4 l) })) (written (roomsAt a labels k) (tower 4 l)) (replicate k 0)
       | some r ↦ raising (refused r) a (replicate k 0)
     ]
+
+-- the labels with x at place n, if a tree is made
+abbrev pub labelledIf : Bool → List ℕ → ℕ → ℕ → List ℕ
+labelledIf true u n x = set u n x
+labelledIf false u n x = u
 
 -- areas 0 to 4 that are zero, to their ends
 pub record Blank (w b m g u : List ℕ) : Type 0 where

@@ -1,12 +1,14 @@
 // Growth: a node at the list's end, from the bit string alone.
+ghost use mathlib.Core.Path.{_≡_};
 ghost use Prim.Native.Nat.{suc};
-ghost use lib.ListN.{length};
+ghost use lib.ListN.{length, set};
 ghost use Rattle.meaning.specs.Bits.{bitsOf};
 ghost use Rattle.meaning.specs.Growth.{grown};
 ghost use Rattle.meaning.specs.Refusals.{firstOf};
 ghost use Rattle.longer.specs.Longer.{longerChecks};
 ghost use Rattle.parentheses.specs.Writes.{heldAt};
-ghost use Rattle.balanced_parens.specs.Areas.{lentAt, stagedIn};
+ghost use Rattle.balanced_parens.specs.Said.{isMade};
+ghost use Rattle.balanced_parens.specs.Areas.{lentAt, stagedIn, labelledIf};
 ghost use Rattle.balanced_parens.specs.Contract.{GrowsTo, Staged};
 use crate::answer::Built;
 use crate::answer::Verdict;
@@ -45,7 +47,25 @@ fn raise_longer(
     }
 }
 
-// "Refused growth leaves 0 to 4 as they stood"; "in area 4 only the new label is written".
+// The label at place n, if there is one.
+fn write_label(area: &mut [u32], n: usize, label: u32)
+    ensures { λ _. ⌜ now (area .exit) ≡ set (now (area .entry)) n label ⌝ }
+{
+    if n < area.len() {
+        area[n] = label;
+    }
+}
+
+// "in area 4 only the new label is written", and nothing where growth is refused.
+fn put_label(area: &mut [u32], n: usize, label: u32, v: Verdict)
+    ensures { λ _. ⌜ now (area .exit) ≡ labelledIf (isMade v) (now (area .entry)) n label ⌝ }
+{
+    if is_made(v) {
+        write_label(area, n, label);
+    }
+}
+
+// "Refused growth leaves 0 to 4 as they stood".
 pub fn grow(
     words: &mut [u64],
     bytes: &mut [u8],
@@ -73,9 +93,6 @@ pub fn grow(
         level,
     );
     let v = b.verdict;
-    if is_made(v) {
-        label_area[n] = label;
-        return b;
-    }
+    put_label(label_area, n, label, v);
     b
 }
