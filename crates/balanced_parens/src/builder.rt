@@ -60,7 +60,7 @@ fn copy_labels(labels: &[u32], area: &mut [u32])
 }
 
 // The five catalogue areas to zero.
-fn zero_areas(
+pub fn zero_areas(
     words: &mut [u64],
     bytes: &mut [u8],
     middles: &mut [u16],

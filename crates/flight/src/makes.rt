@@ -8,16 +8,14 @@ use crate::reply;
 use balanced_parens::answer::Built;
 use balanced_parens::answer::is_made;
 use balanced_parens::builder::build;
+use balanced_parens::builder::zero_areas;
 use balanced_parens::growth::grow;
-use words::zero8;
-use words::zero16;
-use words::zero32;
 use words::zero64;
 ghost use mathlib.Core.Path.{_≡_};
 ghost use Prim.Native.Nat.{_≤_};
 ghost use lib.ListN.{length};
 ghost use Rattle.balanced_parens.specs.Said.{said};
-ghost use Rattle.balanced_parens.specs.Areas.{lentAt, Cleared};
+ghost use Rattle.balanced_parens.specs.Areas.{lentAt};
 ghost use Rattle.flight.specs.Calls.{make, kept, building, growing};
 
 // The record after growth: refused, it stays.
@@ -29,23 +27,6 @@ fn record_grown(counts: &mut [usize], b: Built)
     if is_made(v) {
         put_counts(counts, b.counts);
     }
-}
-
-// The five catalogue areas to zero.
-fn zero_areas(
-    words: &mut [u64],
-    bytes: &mut [u8],
-    middles: &mut [u16],
-    larges: &mut [u64],
-    labels: &mut [u32],
-)
-    ensures { λ _. ⌜ Cleared (now (words .entry)) (now (bytes .entry)) (now (middles .entry)) (now (larges .entry)) (now (labels .entry)) (now (words .exit)) (now (bytes .exit)) (now (middles .exit)) (now (larges .exit)) (now (labels .exit)) ⌝ }
-{
-    zero64(words);
-    zero8(bytes);
-    zero16(middles);
-    zero64(larges);
-    zero32(labels);
 }
 
 // A tree from a list of levels and one of labels. Refused, the areas and the record are zeros.
