@@ -4,7 +4,7 @@
 LISTS = {'close': (1, 1), 'bit': (1, 1), 'string': (2, 1), 'scan': (2, 1), 'dict': (2, 1), 'word8': (3, 1), 'word64': (3, 1),
          'first_child': (1, 2), 'next_sibling': (1, 2), 'label': (1, 2), 'leaf_count': (1, 2)}
 # Words before the numbers of a line that may become zeros.
-NUMBERS = {'put': 3, 'labels': 1, 'record': 1}
+NUMBERS = {'put': 3, 'labels': 1, 'record': 1, 'grow': 2}
 
 
 def fewer(items, keeps):
