@@ -145,8 +145,8 @@ def content(chance, kind, data, middles, larges):
     counts = [len(data), len(middles) // 2, len(larges) // 2]
     sizes = [len(data), len(middles), len(larges)]
     if chance.random() < 0.1:
-        kind = chance.randrange(3)
-        counts[kind] = chance.choice([counts[kind] + 1, max(0, counts[kind] - 1), 0, chance.choice(NEAR_LAST)])
+        which = chance.randrange(3)
+        counts[which] = chance.choice([counts[which] + 1, max(0, counts[which] - 1), 0, chance.choice(NEAR_LAST)])
     record = [0] * 18
     record[6], record[10], record[14] = counts
     lines = [areas([0, *sizes, 0, 0]), line('record', record)]
