@@ -73,7 +73,7 @@ def fewer_nodes(lines, keeps):
 
 
 def fewer_words(lines, at, keeps):
-    """The list at the end of a line."""
+    """The list at the end of a line, which keeps an entry: without one it is no case."""
     words = lines[at].split()
     head, size = LISTS.get(words[0], (len(words), 1))
     items = [words[k:k + size] for k in range(head, len(words), size)]
@@ -81,7 +81,7 @@ def fewer_words(lines, at, keeps):
     def with_items(rest):
         return lines[:at] + [' '.join(words[:head] + [word for item in rest for word in item])] + lines[at + 1:]
 
-    fewer(items, lambda rest: keeps(with_items(rest)))
+    fewer(items, lambda rest: bool(rest) and keeps(with_items(rest)))
 
 
 def more_zeros(lines, at, keeps):
