@@ -35,7 +35,7 @@ def smaller_items(case, found, differs):
             best[:] = smaller, said
         return bool(said)
 
-    if case.again:
+    if case.again and keeps(case.items):
         fewer(case.items, keeps)
     return best
 
