@@ -137,23 +137,23 @@ def any_content(chance):
     larges = entry_numbers(chance, chance.choice([0, 1, 1, 2, 3]), LAST)
     if larges and chance.random() < 0.2:
         larges[-1] = LAST - chance.randint(0, 3)
-    return content(chance, data, middles, larges)
+    return content(chance, 'dictionary of any content', data, middles, larges)
 
 
-def content(chance, data, middles, larges):
+def content(chance, kind, data, middles, larges):
     """Areas 1 to 3 just as long as this content, and counts that are theirs or nearly so."""
     counts = [len(data), len(middles) // 2, len(larges) // 2]
     sizes = [len(data), len(middles), len(larges)]
     if chance.random() < 0.1:
-        kind = chance.randrange(3)
-        counts[kind] = chance.choice([counts[kind] + 1, max(0, counts[kind] - 1), 0, chance.choice(NEAR_LAST)])
+        which = chance.randrange(3)
+        counts[which] = chance.choice([counts[which] + 1, max(0, counts[which] - 1), 0, chance.choice(NEAR_LAST)])
     record = [0] * 18
     record[6], record[10], record[14] = counts
     lines = [areas([0, *sizes, 0, 0]), line('record', record)]
     lines += puts(1, data) + puts(2, middles) + puts(3, larges)
     at = sorted({0, 1, 2, 3, 255, 256, 257, 2_048, 65_536, LAST, LAST - 1, *(values(chance, LAST) for _ in range(4)),
                  *(chance.randint(0, 140_000) for _ in range(4)), *(chance.randint(0, 3_000) for _ in range(6)), *range(4, 16)})
-    return Case('dictionary of any content', lines + ['dict byte_size'] + asked(at))
+    return Case(kind, lines + ['dict byte_size'] + asked(at))
 
 
 def damaged(chance):
@@ -169,4 +169,4 @@ def damaged(chance):
         parts[kind][at] = chance.choice([values(chance, top), (old + 1) % (top + 1), max(0, old - 1), turned])
     if chance.random() < 0.2:
         del parts[chance.randrange(3)][-2:]
-    return content(chance, *parts)
+    return content(chance, 'damaged dictionary', *parts)

@@ -1,14 +1,27 @@
-"""All cases: the fixed ones, and random ones without end."""
+"""All cases: the fixed ones, and random ones by kind."""
 
 from itertools import chain
 
 from . import damage, dictionaries, growth, strings, trees, words
 
-# Each with the share of random cases that it makes.
-RANDOM = [(3, words.random), (4, strings.random), (2, strings.scanned), (6, strings.lent), (4, dictionaries.random),
-          (8, dictionaries.any_content), (5, dictionaries.damaged), (6, trees.random), (3, trees.short), (3, trees.wrong_list),
-          (3, growth.random), (1, growth.from_empty), (3, growth.short), (2, growth.record_of), (10, damage.random),
-          (3, damage.other_string), (5, damage.any_content), (8, damage.made_up)]
+# Of each kind of random case its share of the time, and what makes it.
+RANDOM = {
+    'word of 64 bits': (2, [words.random]),
+    'bit string': (3, [strings.random]),
+    'plain scan': (2, [strings.scanned]),
+    'bit string in any words': (3, [strings.lent]),
+    'dictionary': (4, [dictionaries.random]),
+    'dictionary of any content': (4, [dictionaries.any_content]),
+    'damaged dictionary': (4, [dictionaries.damaged]),
+    'build': (12, [trees.random, trees.random, trees.short]),
+    'build of a wrong list': (3, [trees.wrong_list]),
+    'growth': (10, [growth.random, growth.random, growth.from_empty]),
+    'growth refused': (4, [growth.short]),
+    'growth under another record': (3, [growth.record_of]),
+    'damaged tree': (12, [damage.random, damage.random, damage.random, damage.other_string]),
+    'areas of any content': (5, [damage.any_content]),
+    'made-up pioneers': (6, [damage.made_up]),
+}
 
 
 def fixed(chance):
@@ -18,7 +31,5 @@ def fixed(chance):
                  growth.edges(chance), growth.every_short(chance), damage.four_levels(chance, 2_000))
 
 
-def random(chance):
-    shares, makers = zip(*RANDOM)
-    while True:
-        yield chance.choices(makers, shares)[0](chance)
+def random(chance, kind):
+    return chance.choice(RANDOM[kind][1])(chance)

@@ -5,7 +5,7 @@ from model.tree import parts_of, string_of
 
 from . import lists
 from .case import NEAR_LAST, Case, areas, given, line
-from .trees import ASKED, SHOWN, accepted, label, labels_for, needs, odd, oracle_line, told
+from .trees import ASKED, SHOWN, accepted, label, labels_for, needs, odd, oracle_line, told, told_areas
 
 NODES = (1, 2, 7, 31, 32, 33, 63, 64, 65, 95, 96, 127, 128, 129, 255, 256)
 MANY_NODES = (1_022, 1_023, 1_024, 1_025)
@@ -118,14 +118,20 @@ def from_empty(chance):
 
 def refused(chance, levels, grows, sizes=None, ask=True):
     """Growth that is refused, or not: what stands is shown after each, in areas full of other numbers behind."""
-    sizes = sizes or needs(levels)
+    sizes, labels = sizes or needs(levels), labels_for(chance, levels)
     dirt = chance.choice([0, 3])
-    lines = [areas(sizes)] + given(levels, labels_for(chance, levels)) + ['build']
+    lines = [areas(sizes)] + given(levels, labels) + ['build']
     lines += [f'put 5 0 {dirt}:{dirt}:{sizes[5]}'] if dirt else []
     lines += [f'put 4 {len(levels)} {dirt}:{dirt}:{sizes[4] - len(levels)}'] if dirt and sizes[4] > len(levels) else []
     for level, name in grows:
         lines += [f'grow {level} {name}', *SHOWN]
-    return Case('growth refused', lines + list(ASKED if ask else []))
+
+    def compared(answers, fields, build):
+        """Where every growth was refused, what stands is the Rust's tree of the list."""
+        if all(answer.startswith('refused') for line, answer in zip(lines, answers) if line.startswith('grow')):
+            yield from told(answers[3], answers[len(lines) - len(SHOWN):], fields, build)
+
+    return Case('growth refused', lines + list(ASKED if ask else []), oracle_line(levels, labels) if ask else None, compared)
 
 
 def short(chance):
@@ -168,5 +174,13 @@ def record_of(chance):
     elif how < 0.6:
         record[0] += chance.choice([-1, 1]) if n else 1
         record[1] = 2 * record[0] + 2
-    lines = [areas(sizes)] + given(levels, labels_for(chance, levels)) + ['build', line('record', record)]
-    return Case('growth under another record', lines + [f'grow {level} 9', *SHOWN, 'grow 0 8', *SHOWN, *ASKED])
+    labels = labels_for(chance, levels)
+    lines = [areas(sizes)] + given(levels, labels) + ['build', line('record', record)]
+
+    def compared(answers, fields, build):
+        """After a growth that was not refused the areas are those of the Rust's tree of the longer list."""
+        if not answers[len(lines)].startswith('refused'):
+            yield from told_areas(answers[len(lines) + 1:], fields)
+
+    return Case('growth under another record', lines + [f'grow {level} 9', *SHOWN, 'grow 0 8', *SHOWN, *ASKED],
+                oracle_line(levels + [level], labels + [9]), compared)

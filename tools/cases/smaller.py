@@ -4,7 +4,7 @@
 LISTS = {'close': (1, 1), 'bit': (1, 1), 'string': (2, 1), 'scan': (2, 1), 'dict': (2, 1), 'word8': (3, 1), 'word64': (3, 1),
          'first_child': (1, 2), 'next_sibling': (1, 2), 'label': (1, 2), 'leaf_count': (1, 2)}
 # Words before the numbers of a line that may become zeros.
-NUMBERS = {'put': 3, 'labels': 1, 'record': 1}
+NUMBERS = {'put': 3, 'labels': 1, 'record': 1, 'grow': 2}
 
 
 def fewer(items, keeps):
@@ -35,7 +35,7 @@ def smaller_items(case, found, differs):
             best[:] = smaller, said
         return bool(said)
 
-    if case.again:
+    if case.again and keeps(case.items):
         fewer(case.items, keeps)
     return best
 
@@ -73,7 +73,7 @@ def fewer_nodes(lines, keeps):
 
 
 def fewer_words(lines, at, keeps):
-    """The list at the end of a line."""
+    """The list at the end of a line, which keeps an entry: without one it is no case."""
     words = lines[at].split()
     head, size = LISTS.get(words[0], (len(words), 1))
     items = [words[k:k + size] for k in range(head, len(words), size)]
@@ -81,7 +81,7 @@ def fewer_words(lines, at, keeps):
     def with_items(rest):
         return lines[:at] + [' '.join(words[:head] + [word for item in rest for word in item])] + lines[at + 1:]
 
-    fewer(items, lambda rest: keeps(with_items(rest)))
+    fewer(items, lambda rest: bool(rest) and keeps(with_items(rest)))
 
 
 def more_zeros(lines, at, keeps):

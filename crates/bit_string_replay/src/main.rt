@@ -349,6 +349,14 @@ fn replay_lines(text: &[u8], end: usize, run: Run) -> Run {
     replay(&text[..n], run)
 }
 
+// The end of the input. A last line without its newline, or longer than a page, was not replayed: that is a difference.
+fn ended(kept: usize, run: Run) -> Run {
+    if 0 < kept {
+        return wrong(run);
+    }
+    run
+}
+
 // One page of the input: what was kept of the last line, and what is read behind it.
 fn read_page(text: &mut [u8], kept: usize, run: Run) -> Page {
     if text.len() < kept {
@@ -359,12 +367,19 @@ fn read_page(text: &mut [u8], kept: usize, run: Run) -> Page {
         };
     }
     let got = io::read_full(0, &mut text[kept..]);
+    if got == 0 {
+        return Page {
+            kept: 0,
+            more: false,
+            run: ended(kept, run),
+        };
+    }
     let end = std::num::wrapping_add_usize(kept, got);
     let next = replay_lines(text, end, run);
     let n = whole(text, end);
     Page {
         kept: shift(text, n, end),
-        more: 0 < got,
+        more: true,
         run: next,
     }
 }
