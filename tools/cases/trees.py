@@ -159,7 +159,10 @@ def edges(chance):
         for shape in (lists.walk, lists.jumps, lists.mixed):
             yield case_of(chance, shape(chance, n))
     for n in MANY_NODES:
-        yield case_of(chance, lists.any_list(chance, n))
+        for levels in (lists.wide(n), lists.deep(n), lists.comb(n), lists.walk(chance, n), lists.any_list(chance, n)):
+            yield case_of(chance, levels)
+    for n in LARGE_NODES:
+        yield case_of(chance, lists.wide(n))
     yield case_of(chance, lists.any_list(chance, chance.choice(LARGE_NODES)))
     for top in (0, 1, 30, 31, 32, 100, 253, 254):
         yield case_of(chance, lists.pyramid(top))
@@ -239,7 +242,9 @@ def wrong_list(chance):
         labels = chance.choice([labels[:-1], labels + [7], [], labels[:len(labels) // 2]])
     sizes = [max(0, size + chance.choice([-1, 0, 0, 3])) for size in needs(levels)]
     lines = [areas(sizes)] + filled(sizes, chance.choice([0, 1, 255])) + given(levels, labels)
-    return Case('build of a wrong list', lines + ['build', *SHOWN, *ASKED, *odd(chance, [])])
+    right = accepted(levels) and len(levels) == len(labels)
+    return Case('build of a wrong list', lines + ['build', *SHOWN, *ASKED, *odd(chance, [])], oracle_line(levels, labels) if right else None,
+                lambda answers, fields, build: told(answers[len(lines)], answers[len(lines) + 1:], fields, build))
 
 
 def wrong_lists():
@@ -255,7 +260,8 @@ def wrong_lists():
         for levels in every(n):
             lines = [areas([1, 0, 0, 0, n, 2 * n + 2])] + filled([1, 0, 0, 0, n, 2 * n + 2], 1)
             lines += given(levels, range(10, 10 + n)) + ['build', *SHOWN, 'walk']
-            yield Case('build of a wrong list', lines)
+            yield Case('build of a wrong list', lines, oracle_line(levels, range(10, 10 + n)) if accepted(levels) else None,
+                       lambda answers, fields, build: told_areas(answers[-len(SHOWN) - 1:], fields))
     for m, n in ((0, 1), (1, 0), (3, 2), (2, 3)):
         yield Case('build of a wrong list', [areas([1, 0, 0, 0, 3, 8])] + filled([1, 0, 0, 0, 3, 8], 1) + given([5] * m, [6] * n)
                    + ['build', *SHOWN])
