@@ -24,7 +24,7 @@ use Rattle.questions.specs.declared.Node.{Node}
 use Rattle.questions.specs.declared.Linked.{Linked}
 
 -- a question does not look at scratch
-abbrev five : Lent → Lent
+abbrev pub five : Lent → Lent
 five a = lentAt (a .held .words) (a .held .bytes) (a .held .middle) (a .held .large) (a .labels)
 
 labelled-lent : (t : Tree) (a : Lent) (o : Option child.Node) → labelled t (five a) o ≡ labelled t a o
@@ -32,7 +32,7 @@ unfolding labelled
 labelled-lent t a none = refl
 labelled-lent t a (some m) = refl
 
-child-lent : (t : Tree) (a : Lent) (n : child.Node) → firstChild t (five a) n ≡ firstChild t a n
+pub child-lent : (t : Tree) (a : Lent) (n : child.Node) → firstChild t (five a) n ≡ firstChild t a n
 unfolding firstChild nodeRefusal countsFit
 child-lent t a n = ap (λ x. elim (nodeRefusal t a n) [ none ↦ x | some r ↦ refused r ]) (labelled-lent t a (child (lowest (levelsIn t a)) n))
 
@@ -42,7 +42,7 @@ sibling-by-lent t a n none = refl
 sibling-by-lent t a n (some c) =
     ap (λ x. elim (ltb c (n .place)) [ true ↦ refused broken | false ↦ x ]) (labelled-lent t a (sibling (lowest (levelsIn t a)) c n))
 
-sibling-lent : (t : Tree) (a : Lent) (n : child.Node) → nextSibling t (five a) n ≡ nextSibling t a n
+pub sibling-lent : (t : Tree) (a : Lent) (n : child.Node) → nextSibling t (five a) n ≡ nextSibling t a n
 unfolding nextSibling nodeRefusal countsFit
 sibling-lent t a n = ap (λ x. elim (nodeRefusal t a n) [ none ↦ x | some r ↦ refused r ]) (sibling-by-lent t a n (closeAt (levelsIn t a) (n .place)))
 
