@@ -1,7 +1,6 @@
--- A walk does not look at the scratch beside the five areas: it has its own.
+-- No question looks at scratch, and a walk has its own.
 use mathlib.Core.Path.{_≡_, refl, ap, _∙_}
-use mathlib.Core.Bool.{Bool}
-use mathlib.Core.Option.{none, some}
+use mathlib.Core.Option.{Option, none, some}
 use mathlib.Core.List.{List, [], _∷_}
 use Prim.Native.Nat.{ℕ, zero, suc, pred, _^_}
 use lib.Dec.{ltb}
@@ -9,8 +8,9 @@ use lib.ListN.{length}
 use Rattle.meaning.specs.Answers.{Answer, is, nothing, refused, broken, provided}
 use Rattle.meaning.specs.Child.{Node, root}
 use Rattle.meaning.specs.Walk.{Told}
-use Rattle.meaning.specs.Build.{Lent, Tree}
-use Rattle.meaning.specs.Questions.{countsFit, firstChild, nextSibling}
+use Rattle.meaning.specs.Build.{Lent, Tree, levelsIn}
+use Rattle.meaning.specs.Close.{closeAt}
+use Rattle.meaning.specs.Questions.{countsFit, nodeRefusal, labelOf, labelIn, leavesBy, leavesBelow, nodesIn, bytesHeld}
 use Rattle.meaning.specs.Walking.{Step, orElse, backBy, onwardBy, toldFirst, telling, walkBy, WalkRooms, walkRefusal, unwalked, walkedBy, walking}
 use Rattle.questions.proofs.Built.{child-lent, sibling-lent}
 use Rattle.mission.specs.Contracts.{catalogue}
@@ -46,3 +46,29 @@ module _ (t : Tree) (a : Lent) where
   pub walk-lent : (w : WalkRooms) → walking t (catalogue a) w ≡ walking t a w
   unfolding walking walkRefusal countsFit
   walk-lent w = ap (λ x. elim (walkRefusal t a w) [ none ↦ walkedBy w x | some r ↦ unwalked w r ]) (walk-by-lent (t .nodes) (root ∷ []))
+
+  label-of-lent : (k : ℕ) → labelOf t (catalogue a) k ≡ labelOf t a k
+  unfolding labelOf
+  label-of-lent zero = refl
+  label-of-lent (suc k) = refl
+
+  pub label-lent : (n : Node) → labelIn t (catalogue a) n ≡ labelIn t a n
+  unfolding labelIn nodeRefusal countsFit
+  label-lent n = ap (λ x. elim (nodeRefusal t a n) [ none ↦ x | some r ↦ refused r ]) (label-of-lent (n .id))
+
+  leaves-by-lent : (n : Node) (o : Option ℕ) → leavesBy t (catalogue a) n o ≡ leavesBy t a n o
+  unfolding leavesBy
+  leaves-by-lent n none = refl
+  leaves-by-lent n (some c) = refl
+
+  pub leaves-lent : (n : Node) → leavesBelow t (catalogue a) n ≡ leavesBelow t a n
+  unfolding leavesBelow nodeRefusal countsFit
+  leaves-lent n = ap (λ x. elim (nodeRefusal t a n) [ none ↦ x | some r ↦ refused r ]) (leaves-by-lent n (closeAt (levelsIn t a) (n .place)))
+
+  pub nodes-lent : nodesIn t (catalogue a) ≡ nodesIn t a
+  unfolding nodesIn countsFit
+  nodes-lent = refl
+
+  pub size-lent : bytesHeld t (catalogue a) ≡ bytesHeld t a
+  unfolding bytesHeld countsFit
+  size-lent = refl

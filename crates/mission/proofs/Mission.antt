@@ -2,11 +2,12 @@
 use mathlib.Core.Path.{_≡_, refl, sym, ap, _∙_}
 use mathlib.Core.Option.{Option, none, some}
 use mathlib.Core.List.{List, [], _∷_, _++_}
-use Prim.Native.Nat.{ℕ, suc, pred, _+_, _<_}
+use Prim.Native.Nat.{ℕ, suc, pred, _+_, _-_, _<_}
 use native.Mathlib.Omega.{arith}
-use lib.ListN.{length, getD, replicate}
+use lib.ListN.{length, getD, replicate, List·getD-append}
 use lib.Seq.{getD-append-add}
-use Rattle.meaning.specs.Answers.{Answer, is}
+use borrow.Author.Tests.{lt-ltb}
+use Rattle.meaning.specs.Answers.{Answer, is, broken, provided}
 use Rattle.meaning.specs.String.{string}
 use Rattle.meaning.specs.Child as child
 use Rattle.meaning.specs.Child.{IsNode, root}
@@ -18,19 +19,24 @@ use Rattle.meaning.specs.Areas.{filled}
 use Rattle.meaning.specs.Refusals.{refusal, Accepted}
 use Rattle.meaning.specs.Build.{Lent, Tree, roomsOf, treeOf, lentOf, zeroed, build}
 use Rattle.meaning.specs.Change.{Question, childOf, siblingOf, asked, answer, AnswersGrow}
-use Rattle.meaning.specs.Questions.{edge, closeIn, firstChild, nextSibling, heard, asking, edgeOf}
-use Rattle.meaning.specs.Demands.{edgeIn, Grows}
+use Rattle.meaning.specs.Questions.{edge, closeIn, firstChild, nextSibling, heard, asking, edgeOf, labelOf, labelIn, leavesBelow, nodesIn, bytesHeld}
+use Rattle.meaning.specs.Demands.{Answered, edgeIn, Grows}
 use Rattle.meaning.proofs.Accepted.{accepted-exactly}
 use Rattle.meaning.proofs.Kin.{node-of, kin, root-kin}
+use Rattle.meaning.proofs.If.{if-none}
+use Rattle.meaning.proofs.Questions.{asked-none}
 use Rattle.meaning.proofs.Walking.{walk-returns}
 use Rattle.record.specs.Record.{treeIn}
 use Rattle.closes.proofs.Built.{get-close-matches}
-use Rattle.questions.specs.Said.{nodeOf, saidEdge}
+use Rattle.questions.specs.Said.{saidEdge, saidNumber}
 use Rattle.questions.specs.declared.Linked.{Linked}
 use Rattle.questions.specs.declared.Linked.the-variants as linked
-use Rattle.questions.proofs.Agree.{edges-agree}
+use Rattle.questions.specs.declared.Labelled.{Labelled}
+use Rattle.questions.specs.declared.Labelled.the-variants as labelled
+use Rattle.questions.specs.declared.Number.{Number}
+use Rattle.questions.specs.declared.Number.the-variants as number
+use Rattle.questions.proofs.Agree.{edges-agree, labels-agree, numbers-agree}
 use Rattle.questions.proofs.Built.{child-lent, sibling-lent, first-child-matches, next-sibling-matches}
-use Rattle.walk.specs.declared.Walked.{Walked}
 use Rattle.walk.specs.declared.Walked.the-variants as walked
 use Rattle.walk.specs.Said as walk
 use Rattle.walk.proofs.Agree.{walks-agree}
@@ -38,12 +44,15 @@ use Rattle.balanced_parens.specs.Contract.{Builds, GrowsTo}
 use Rattle.balanced_parens.specs.Demands.{treeAt}
 use Rattle.balanced_parens.specs.declared.answer.Built.{Built}
 use Rattle.balanced_parens.proofs.Outcome.{Says, says}
-use Rattle.balanced_parens.proofs.Demands.{grow-builds, growth-demand}
-use Rattle.mission.specs.Contracts.{catalogue, nodeIn, FirstChild, NextSibling, Asks, Walks}
+use Rattle.balanced_parens.proofs.Demands.{tree-answers, grow-builds, growth-demand}
+use Rattle.mission.specs.Contracts.{catalogue, nodeIn, FirstChild, NextSibling, Asks, Label}
 use Rattle.mission.specs.Mission.{TreeAsked, GrowthAsked}
-use Rattle.mission.proofs.Lent.{walk-lent}
+use Rattle.mission.proofs.Lent.{walk-lent, label-lent, leaves-lent, nodes-lent, size-lent}
 
 -- ---- build, and a question
+
+same-tree : (s t : Tree) → _≡_ {A = Answer Tree} (is s) (is t) → s ≡ t
+same-tree s t e = cc
 
 module _ (vs bs : List ℕ) (a z : Lent) (r : Built) (b : Builds vs bs a z r) (acc : Accepted vs bs (roomsOf a)) where
   tells : Says (treeOf vs) (lentOf vs bs (roomsOf a)) (zeroed (roomsOf a)) z r (refusal vs bs (roomsOf a))
@@ -80,6 +89,27 @@ module _ (vs bs : List ℕ) (a z : Lent) (r : Built) (b : Builds vs bs a z r) (a
   unfolding edgeOf
   ends x o e f = edges-agree x linked.Nothing (e ∙ ap (edgeOf bs) f)
 
+  -- a number: the areas and the record in the place of what is lent
+  numbers : (x : Number) (n : ℕ) (f : Tree → Lent → Answer ℕ) → ((t : Tree) (y : Lent) → f t (catalogue y) ≡ f t y) → saidNumber x ≡ f (treeIn (r .counts)) (catalogue z)
+      → f (treeIn (r .counts)) z ≡ is n → x ≡ number.Is n
+  numbers x n f l e h = numbers-agree x (number.Is n) (e ∙ l (treeIn (r .counts)) z ∙ h)
+
+  -- the demand's own answers
+  abbrev own : Answered vs bs (treeAt r z)
+  own = tree-answers vs bs a z r b acc .answered
+
+  own-tree : own .tree ≡ treeIn (r .counts)
+  own-tree = sym (same-tree (treeIn (r .counts)) (own .tree) (own .built))
+
+  label-is : (k : ℕ) (x : Labelled) → k < length vs → Label r z (nodeIn (nodeAt vs k)) x → x ≡ labelled.Is (getD bs k 0)
+  unfolding labelIn labelOf lentOf filled provided treeOf nodeAt
+  label-is k x h f =
+      labels-agree x (labelled.Is (getD bs k 0))
+      (f ∙ label-lent (treeIn (r .counts)) z (nodeAt vs k) ∙ ap (λ t. labelIn t z (nodeAt vs k)) tree ∙ ap (λ y. labelIn (treeOf vs) y (nodeAt vs k)) areas
+      ∙ if-none _ _ (asked-none vs bs (roomsOf a) acc (nodeAt vs k) (node-of vs (acc .rule) k h))
+      ∙ ap (λ t. provided t broken (is (getD (filled (roomsOf a .labels) bs) k 0))) (lt-ltb k (length vs) h)
+      ∙ ap is (List·getD-append bs (replicate (roomsOf a .labels - length bs) 0) 0 k (omega (arith, acc .same))))
+
   -- Demand 2
   pub tree-asked : TreeAsked vs bs z r
   tree-asked =
@@ -98,6 +128,14 @@ module _ (vs bs : List ℕ) (a z : Lent) (r : Built) (b : Builds vs bs a z r) (a
         root-child = λ x h f. leads x 0 _ (child-is root x (root-kin vs (acc .rule) .is) f) (root-kin vs (acc .rule) .kid h);
         root-no-child = λ x h f. ends x _ (child-is root x (root-kin vs (acc .rule) .is) f) (root-kin vs (acc .rule) .no-kid h);
         root-no-sibling = λ x f. ends x _ (sibling-is root x (root-kin vs (acc .rule) .is) f) (root-kin vs (acc .rule) .no-sib);
+        label = label-is;
+        nodes = λ x f. numbers x _ nodesIn nodes-lent f (ap (λ t. nodesIn t z) (sym own-tree) ∙ own .nodes);
+        size = λ x f. numbers x _ bytesHeld size-lent f (ap (λ t. bytesHeld t z) (sym own-tree) ∙ own .size);
+        leaves = λ k x h f.
+            numbers x _ (λ t y. leavesBelow t y (nodeAt vs k)) (λ t y. leaves-lent t y (nodeAt vs k)) f
+            (ap (λ t. leavesBelow t z (nodeAt vs k)) (sym own-tree) ∙ own .leaves k h);
+        root-leaves = λ x f.
+            numbers x _ (λ t y. leavesBelow t y root) (λ t y. leaves-lent t y root) f (ap (λ t. leavesBelow t z root) (sym own-tree) ∙ own .root-leaves);
       }
 
 -- ---- build, growth, and a question
@@ -117,9 +155,6 @@ heard-of : (t : Tree) (z : Lent) (q : Question) → answer (asking t z) q ≡ he
 unfolding edgeIn answer
 heard-of t z (childOf n) = refl
 heard-of t z (siblingOf n) = refl
-
-same-tree : (s t : Tree) → _≡_ {A = Answer Tree} (is s) (is t) → s ≡ t
-same-tree s t e = cc
 
 module _ (vs bs : List ℕ) (v b : ℕ) (a z₁ : Lent) (r₁ : Built) (acc : Accepted vs bs (roomsOf a)) (p₁ : Builds vs bs a z₁ r₁)
     (z₂ : Lent) (r₂ : Built) (p₂ : GrowsTo (r₁ .counts) v b z₁ z₂ r₂) (acc⁺ : Accepted (vs ++ v ∷ []) (bs ++ b ∷ []) (roomsOf a)) where

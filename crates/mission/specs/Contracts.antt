@@ -5,14 +5,16 @@ use Prim.Native.Nat.{ℕ}
 use Rattle.meaning.specs.Child as child
 use Rattle.meaning.specs.Build.{Lent}
 use Rattle.meaning.specs.Change.{Question, childOf, siblingOf}
-use Rattle.meaning.specs.Questions.{lentAt, closeIn, firstChild, nextSibling}
+use Rattle.meaning.specs.Questions.{lentAt, closeIn, firstChild, nextSibling, labelIn, leavesBelow, nodesIn, bytesHeld}
 use Rattle.meaning.specs.Walking.{walking}
 use Rattle.record.specs.Record.{treeIn}
 use Rattle.closes.specs.Said as close
 use Rattle.closes.specs.declared.Closed.{Closed}
-use Rattle.questions.specs.Said.{nodeOf, saidEdge}
+use Rattle.questions.specs.Said.{nodeOf, saidEdge, saidLabel, saidNumber}
 use Rattle.questions.specs.declared.Node.{Node}
 use Rattle.questions.specs.declared.Linked.{Linked}
+use Rattle.questions.specs.declared.Labelled.{Labelled}
+use Rattle.questions.specs.declared.Number.{Number}
 use Rattle.walk.specs.Said as walk
 use Rattle.walk.specs.declared.Walked.{Walked}
 use Rattle.balanced_parens.specs.declared.answer.Built.{Built}
@@ -41,6 +43,21 @@ NextSibling r z n x = saidEdge x ≡ nextSibling (treeIn (r .counts)) (catalogue
 abbrev pub Asks : Built → Lent → Question → Linked → Type 0
 Asks r z (childOf n) x = FirstChild r z (nodeIn n) x
 Asks r z (siblingOf n) x = NextSibling r z (nodeIn n) x
+
+-- `questions::label` may answer x of the node n
+abbrev pub Label : Built → Lent → Node → Labelled → Type 0
+Label r z n x = saidLabel x ≡ labelIn (treeIn (r .counts)) (catalogue z) (nodeOf n)
+
+-- `questions::leaf_count` may answer x of the node n
+abbrev pub LeafCount : Built → Lent → Node → Number → Type 0
+LeafCount r z n x = saidNumber x ≡ leavesBelow (treeIn (r .counts)) (catalogue z) (nodeOf n)
+
+-- `questions::nodes` and `questions::byte_size` may answer x
+abbrev pub Nodes : Built → Lent → Number → Type 0
+Nodes r z x = saidNumber x ≡ nodesIn (treeIn (r .counts)) (catalogue z)
+
+abbrev pub ByteSize : Built → Lent → Number → Type 0
+ByteSize r z x = saidNumber x ≡ bytesHeld (treeIn (r .counts)) (catalogue z)
 
 -- `walk::walk` may answer x and leave us′, cs′ and s′ in the lists of levels and labels and in scratch, lent as us, cs and s
 abbrev pub Walks : Built → Lent → (us cs s us′ cs′ s′ : List ℕ) → Walked → Type 0

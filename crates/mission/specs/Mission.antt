@@ -9,6 +9,10 @@ use Rattle.meaning.specs.Match.{IsClose}
 use Rattle.meaning.specs.Child as child
 use Rattle.meaning.specs.Child.{IsNode, root}
 use Rattle.meaning.specs.Kin.{nodeAt, below, HasLevel}
+use Rattle.meaning.specs.Bits.{tab}
+use Rattle.meaning.specs.Family.{tower}
+use Rattle.meaning.specs.Size.{byteSize}
+use Rattle.meaning.specs.Leaves.{childless}
 use Rattle.meaning.specs.Areas.{filled}
 use Rattle.meaning.specs.Build.{Lent}
 use Rattle.meaning.specs.Change.{Question, asked, Changes}
@@ -16,10 +20,14 @@ use Rattle.closes.specs.declared.Closed.{Closed}
 use Rattle.closes.specs.declared.Closed.the-variants as closed
 use Rattle.questions.specs.declared.Linked.{Linked}
 use Rattle.questions.specs.declared.Linked.the-variants as linked
+use Rattle.questions.specs.declared.Labelled.{Labelled}
+use Rattle.questions.specs.declared.Labelled.the-variants as labelled
+use Rattle.questions.specs.declared.Number.{Number}
+use Rattle.questions.specs.declared.Number.the-variants as number
 use Rattle.walk.specs.declared.Walked.{Walked}
 use Rattle.walk.specs.declared.Walked.the-variants as walked
 use Rattle.balanced_parens.specs.declared.answer.Built.{Built}
-use Rattle.mission.specs.Contracts.{nodeIn, GetClose, FirstChild, NextSibling, Asks, Walks}
+use Rattle.mission.specs.Contracts.{nodeIn, GetClose, FirstChild, NextSibling, Asks, Label, LeafCount, Nodes, ByteSize, Walks}
 
 -- Demand 2. A build of the levels vs and the labels bs answered r and left z
 pub record TreeAsked (vs bs : List ℕ) (z : Lent) (r : Built) : Type 0 where
@@ -43,6 +51,14 @@ pub record TreeAsked (vs bs : List ℕ) (z : Lent) (r : Built) : Type 0 where
   pub root-child : (x : Linked) → 0 < length vs → FirstChild r z (nodeIn root) x → x ≡ linked.Edge (nodeIn (nodeAt vs 0)) (getD bs 0 0)
   pub root-no-child : (x : Linked) → length vs ≡ 0 → FirstChild r z (nodeIn root) x → x ≡ linked.Nothing
   pub root-no-sibling : (x : Linked) → NextSibling r z (nodeIn root) x → x ≡ linked.Nothing
+  -- "its label is label k"
+  pub label : (k : ℕ) (x : Labelled) → k < length vs → Label r z (nodeIn (nodeAt vs k)) x → x ≡ labelled.Is (getD bs k 0)
+  -- the number of nodes, the byte size of the size rule, and "the nodes without children strictly below a node"
+  pub nodes : (x : Number) → Nodes r z x → x ≡ number.Is (length vs)
+  pub size : (x : Number) → ByteSize r z x → x ≡ number.Is (byteSize (tower 4 (string vs)) (length vs))
+  pub leaves : (k : ℕ) (x : Number) → k < length vs → LeafCount r z (nodeIn (nodeAt vs k)) x
+      → x ≡ number.Is (childless (string vs) (tab (nodeAt vs) (suc k) (below vs k)))
+  pub root-leaves : (x : Number) → LeafCount r z (nodeIn root) x → x ≡ number.Is (childless (string vs) (tab (nodeAt vs) 0 (length vs)))
 
 -- Demand 3. A build of the list vs answered r₁ and left z₁, and growth of that by level v and label b answered r₂ and left z₂
 pub record GrowthAsked (vs : List ℕ) (v b : ℕ) (z₁ z₂ : Lent) (r₁ r₂ : Built) : Type 0 where
