@@ -10,9 +10,10 @@ use Rattle.meaning.specs.Answers.{Refusal}
 use Rattle.meaning.specs.Build.{Lent, After}
 use Rattle.record.specs.declared.Counts.{Counts}
 use Rattle.record.proofs.Agree.{replies-agree}
+use Rattle.parentheses.specs.declared.levels.Raised.{Raised}
 use Rattle.balanced_parens.specs.Said.{refusalOf, said}
 use Rattle.balanced_parens.specs.Areas.{after}
-use Rattle.balanced_parens.specs.Contract.{CountsIn, Builds, GrowsTo}
+use Rattle.balanced_parens.specs.Contract.{CountsIn, Builds, GrowsTo, Retold}
 use Rattle.balanced_parens.specs.declared.answer.Built.{Built}
 use Rattle.balanced_parens.specs.declared.answer.Verdict.{Verdict}
 use Rattle.balanced_parens.specs.declared.answer.Verdict.the-variants as verdict
@@ -71,3 +72,7 @@ module _ (z z′ : Lent) (r r′ : Built) where
 
   pub grows-agree : (c : Counts) (v b : ℕ) (a : Lent) → GrowsTo c v b a z r → GrowsTo c v b a z′ r′ → (r ≡ r′) × (z ≡ z′)
   grows-agree c v b a x y = both _ (x .counts) (y .counts) (x .outcome) (y .outcome)
+
+  -- the level builder's answer, told again
+  pub retold-agree : (x : Raised) → Retold x r → Retold x r′ → r ≡ r′
+  retold-agree x e f = answers-agree (e .counts) (f .counts) (e .reply ∙ sym (f .reply))

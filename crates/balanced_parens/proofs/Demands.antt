@@ -37,7 +37,7 @@ module _ (vs bs : List ℕ) (a z : Lent) (r : Built) (b : Builds vs bs a z r) wh
   unfolding build
   outcome = b .outcome
 
-  pub tells : Says (treeOf vs) (lentOf vs bs rooms) (zeroed rooms) z r (refusal vs bs rooms)
+  tells : Says (treeOf vs) (lentOf vs bs rooms) (zeroed rooms) z r (refusal vs bs rooms)
   tells = says (treeOf vs) (lentOf vs bs rooms) (zeroed rooms) z r (refusal vs bs rooms) outcome
 
   -- all areas keep their lengths
@@ -79,7 +79,7 @@ module _ (vs bs : List ℕ) (a z : Lent) (r : Built) (b : Builds vs bs a z r) wh
 
   -- Demand 2
   module _ (acc : Accepted vs bs rooms) where
-    pub none-refuses : refusal vs bs rooms ≡ none
+    none-refuses : refusal vs bs rooms ≡ none
     none-refuses = accepted-exactly vs bs rooms .1 acc
 
     pub built-made : r .verdict ≡ verdict.Made

@@ -1,13 +1,14 @@
 -- The labels in area 4.
 use mathlib.Core.Path.{_≡_, refl, sym, ap, ap₂, _∙_}
-use mathlib.Core.List.{List, [], _∷_, _++_}
-use Prim.Native.Nat.{ℕ, _+_, _-_, _≤_, _<_}
+use mathlib.Core.List.{List, _++_}
+use Prim.Native.Nat.{ℕ, _+_, _≤_, _<_}
 use native.Mathlib.Nat.{zero-add}
 use native.Mathlib.Numerals.{add-one}
 use native.Mathlib.Omega.{arith}
-use lib.ListN.{length, getD, set, take, drop, replicate, length-set, length-replicate, replicate-append-replicate}
-use lib.Seq.{paste, paste-zero, paste-suc, drop-at}
+use lib.ListN.{length, getD, set, drop, replicate, length-set}
+use lib.Seq.{paste, paste-zero, paste-suc, take-all}
 use Rattle.meaning.specs.Areas.{filled}
+use Rattle.meaning.proofs.Runs.{drop-zeros}
 
 -- j labels are there
 pub record Copied (bs d area : List ℕ) (j : ℕ) : Type 0 where
@@ -34,20 +35,10 @@ copied-more bs d area j c h =
 pub copied-all : (bs d area : List ℕ) (j : ℕ) → Copied bs d area j → length bs ≤ j → area ≡ paste d 0 bs (length bs)
 copied-all bs d area j c h = let e : j ≡ length bs = omega (arith, c .within) in c .content ∙ ap (paste d 0 bs) e
 
-take-all : (l : List ℕ) → take (length l) l ≡ l
-take-all [] = refl
-take-all (x ∷ l) = ap (λ (r : List ℕ). x ∷ r) (take-all l)
-
-drop-zeros : (t k : ℕ) → t ≤ k → drop t (replicate {A = ℕ} k 0) ≡ replicate (k - t) 0
-drop-zeros t k h =
-    let e : t + (k - t) ≡ k = omega arith in
-    ap (drop t) (ap (λ (x : ℕ). replicate x 0) (sym e) ∙ sym (replicate-append-replicate t (k - t) 0))
-    ∙ drop-at (replicate t 0) (replicate (k - t) 0) t (length-replicate t 0)
-
 -- over zeros they are what a build leaves
 pub labels-filled : (bs u d area : List ℕ) → length bs ≤ length u → d ≡ replicate (length u) 0 → area ≡ paste d 0 bs (length bs) → area ≡ filled (length u) bs
 unfolding filled
 labels-filled bs u d area h z e =
     e ∙ ap (λ (x : List ℕ). paste x 0 bs (length bs)) z
-    ∙ ap₂ (λ (x y : List ℕ). x ++ y) (take-all bs)
-    (ap (λ (n : ℕ). drop n (replicate {A = ℕ} (length u) 0)) (zero-add (length bs)) ∙ drop-zeros (length bs) (length u) h)
+    ∙ ap₂ (λ (x y : List ℕ). x ++ y) (take-all (length bs) bs (omega arith))
+    (ap (λ (n : ℕ). drop n (replicate {A = ℕ} (length u) 0)) (zero-add (length bs)) ∙ drop-zeros (length bs) (length u))

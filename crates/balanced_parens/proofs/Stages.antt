@@ -12,10 +12,10 @@ use Rattle.meaning.specs.List.{Rule, greatest}
 use Rattle.meaning.specs.String.{string}
 use Rattle.meaning.specs.Family.{tower}
 use Rattle.meaning.specs.Areas.{Held, written, counted}
-use Rattle.meaning.specs.Refusals.{levelRule, firstOf}
+use Rattle.meaning.specs.Refusals.{firstOf}
 use Rattle.meaning.specs.Growth.{oneRoot}
 use Rattle.meaning.proofs.If.{if-true, and-true, if-some}
-use Rattle.meaning.proofs.Accepted.{check-none, first-none}
+use Rattle.meaning.proofs.Accepted.{check-none, level-none, first-none}
 use Rattle.meaning.proofs.Offending.{offending-none}
 use Rattle.meaning.proofs.String.{string-length}
 use Rattle.meaning.proofs.OneRoot.{one-root-test, string-one-root}
@@ -35,11 +35,6 @@ pub placed-some : (o : Option Refusal) (r : Refusal) (x z s : List ℕ)
     → placing (some r) s ≡ elim o [ none ↦ placing none x | some q ↦ placing (some q) z ] → (o ≡ some r) × (s ≡ z)
 placed-some none r x z s e = absurd (let y : some r ≡ none = ap (λ (p : Placing). p .refusal) e in let w : _≡_ {A = ℕ} 0 1 = cc in omega arith)
 placed-some (some q) r x z s e = (sym (ap (λ (p : Placing). p .refusal) e), ap (λ (p : Placing). p .scr) e)
-
-level-none : (o : Option ℕ) → levelRule o ≡ none → o ≡ none
-unfolding levelRule
-level-none none e = refl
-level-none (some k) e = absurd (let z : _≡_ {A = ℕ} 0 1 = cc in omega arith)
 
 -- a list that no check of its own refuses
 pub record Listed (vs : List ℕ) (k : ℕ) : Type 0 where

@@ -1,15 +1,23 @@
 -- Two outcomes that a contract allows agree; and each question answers what the plain scan answers, whose contract is the same.
-use mathlib.Core.Path.{_≡_, sym, ap, _∙_}
+use mathlib.Core.Path.{_≡_, refl, sym, ap, _∙_}
 use mathlib.Core.Bool.{Bool}
 use mathlib.Core.List.{List}
 use Prim.Native.Nat.{ℕ}
-use Rattle.meaning.specs.BitString.{Edited, edited, stringGet, stringRank, stringSelect, stringPred, stringSucc, stringSize, stringSet, stringPush, stringResize}
-use Rattle.ops.specs.Said.{saidGot, saidCount, saidSpot, saidDone}
+use native.Mathlib.Omega.{arith}
+use Rattle.meaning.specs.Answers as answers
+use Rattle.meaning.specs.Answers.{Answer, is, nothing, refused}
+use Rattle.meaning.specs.BitString.{Edited, edited, stringGet, stringRank, stringSelect, stringPred, stringSucc, stringSize, stringSet, stringPush, stringResize, Met, oneFrom}
+use Rattle.ops.specs.Said.{saidRefusal, saidGot, saidCount, saidSpot, saidDone}
 use Rattle.ops.specs.declared.Got.{Got}
 use Rattle.ops.specs.declared.Count.{Count}
 use Rattle.ops.specs.declared.Spot.{Spot}
 use Rattle.ops.specs.declared.Done.{Done}
-use Rattle.ops.proofs.Agree.{same-got, same-count, same-spot, same-done}
+use Rattle.ops.proofs.Agree.{same-refusal, same-got, same-count, same-spot, same-done}
+use Rattle.bit_string.specs.Said.{saidStep}
+use Rattle.bit_string.specs.Indices.{answer, moved}
+use Rattle.bit_string.specs.declared.one_indices.OneIndices.{OneIndices}
+use Rattle.bit_string.specs.declared.Step.{Step}
+use Rattle.bit_string.specs.declared.Step.the-variants as step
 
 -- a question's two answers: of two calls, or one of `bit_string` and one of `linear_fid`
 module _ (b : Bool) (ws : List ℕ) (n i : ℕ) where
@@ -46,3 +54,40 @@ module _ (r s : Done) (us vs : List ℕ) where
 
   pub resize-agrees : (ws : List ℕ) (n m : ℕ) → edited (saidDone r) us ≡ stringResize ws n m → edited (saidDone s) vs ≡ stringResize ws n m → (r ≡ s) × (us ≡ vs)
   resize-agrees ws n m p q = both (stringResize ws n m) p q
+
+-- a step of the cursor
+kind : Answer Met → ℕ
+kind (is m) = 0
+kind nothing = 1
+kind (refused r) = 2
+
+met : Met → Answer Met → Met
+met d (is m) = m
+met d nothing = d
+met d (refused r) = d
+
+refusal : answers.Refusal → Answer Met → answers.Refusal
+refusal d (is m) = d
+refusal d nothing = d
+refusal d (refused r) = r
+
+same-step : (r s : Step) → saidStep r ≡ saidStep s → r ≡ s
+unfolding kind met refusal
+same-step (step.One i c) (step.One j d) e =
+    let f : _≡_ {A = Met} (record { place = i; next = c .next }) (record { place = j; next = d .next }) = ap (met (record { place = i; next = c .next })) e in
+    λ k. step.One (f k .place) (record { next = f k .next })
+same-step (step.One i c) step.End e = absurd (let f : _≡_ {A = ℕ} 0 1 = ap kind e in omega arith)
+same-step (step.One i c) (step.Refused r) e = absurd (let f : _≡_ {A = ℕ} 0 2 = ap kind e in omega arith)
+same-step step.End (step.One j d) e = absurd (let f : _≡_ {A = ℕ} 1 0 = ap kind e in omega arith)
+same-step step.End step.End e = refl
+same-step step.End (step.Refused r) e = absurd (let f : _≡_ {A = ℕ} 1 2 = ap kind e in omega arith)
+same-step (step.Refused r) (step.One j d) e = absurd (let f : _≡_ {A = ℕ} 2 0 = ap kind e in omega arith)
+same-step (step.Refused r) step.End e = absurd (let f : _≡_ {A = ℕ} 2 1 = ap kind e in omega arith)
+same-step (step.Refused r) (step.Refused s) e = ap step.Refused (same-refusal r s (ap (refusal (saidRefusal r)) e))
+
+pub step-agrees : (ws : List ℕ) (n i : ℕ) (r s : Step) → saidStep r ≡ oneFrom ws n i → saidStep s ≡ oneFrom ws n i → r ≡ s
+step-agrees ws n i r s p q = same-step r s (p ∙ sym q)
+
+-- a step of the struct: its answer, and the struct after it
+pub next-agrees : (x y z : OneIndices) (r s : Step) → saidStep r ≡ answer x → saidStep s ≡ answer x → y ≡ moved x → z ≡ moved x → (r ≡ s) × (y ≡ z)
+next-agrees x y z r s p q e f = (same-step r s (p ∙ sym q), e ∙ sym f)

@@ -22,7 +22,7 @@ pub enum Turn {
 }
 
 // How many stand before place e.
-pub fn ones_before(words: &[u64], n: usize, e: usize, one: bool) -> usize
+pub(crate) fn ones_before(words: &[u64], n: usize, e: usize, one: bool) -> usize
     ensures { λ r. ⌜ r ≡ opens (take e (side one (bitsOf (now (words .entry)) n))) ⌝ }
 {
     let whole = e / 64;
@@ -51,7 +51,7 @@ fn select_turn(x: u64, k: usize) -> Turn
 }
 
 // The place of the k-th.
-pub fn select(words: &[u64], n: usize, k: usize, one: bool) -> Spot
+pub(crate) fn select(words: &[u64], n: usize, k: usize, one: bool) -> Spot
     ensures { λ r. ⌜ saidSpot r ≡ plainSelect (side one (bitsOf (now (words .entry)) n)) k ⌝ }
 {
     if k == 0 {
@@ -77,7 +77,7 @@ pub fn select(words: &[u64], n: usize, k: usize, one: bool) -> Spot
 }
 
 // The naive pred: select of the place's rank.
-pub fn pred(words: &[u64], n: usize, i: usize, one: bool) -> Spot
+pub(crate) fn pred(words: &[u64], n: usize, i: usize, one: bool) -> Spot
     ensures { λ r. ⌜ saidSpot r ≡ plainPred (side one (bitsOf (now (words .entry)) n)) i ⌝ }
 {
     let k = ones_before(words, n, upto(n, i), one);
@@ -85,7 +85,7 @@ pub fn pred(words: &[u64], n: usize, i: usize, one: bool) -> Spot
 }
 
 // The naive succ, of the zeros: the place itself, or select of one more than its rank.
-pub fn next_zero(words: &[u64], n: usize, i: usize) -> Spot
+pub(crate) fn next_zero(words: &[u64], n: usize, i: usize) -> Spot
     ensures { λ r. ⌜ saidSpot r ≡ plainSucc (side false (bitsOf (now (words .entry)) n)) i ⌝ }
 {
     if n <= i {
@@ -99,7 +99,7 @@ pub fn next_zero(words: &[u64], n: usize, i: usize) -> Spot
 }
 
 // The next one, word by word.
-pub fn next_one(words: &[u64], n: usize, i: usize) -> Spot
+pub(crate) fn next_one(words: &[u64], n: usize, i: usize) -> Spot
     ensures { λ r. ⌜ saidSpot r ≡ plainSucc (side true (bitsOf (now (words .entry)) n)) i ⌝ }
 {
     let last = n / 64;

@@ -7,7 +7,7 @@ ghost use Rattle.bit_string.specs.Part.{Sided, Marked, Cut};
 use words::word_at;
 
 // The k low bits of x.
-pub fn low(x: u64, k: usize) -> u64
+pub(crate) fn low(x: u64, k: usize) -> u64
     ensures { λ r. ⌜ r ≡ x % 2 ^ k ⌝ }
 {
     if k < 64 {
@@ -27,7 +27,7 @@ fn sided(x: u64, one: bool) -> u64
 }
 
 // The ones of word q before the length, or its zeros, as ones.
-pub fn marked(words: &[u64], n: usize, q: usize, one: bool) -> u64
+pub(crate) fn marked(words: &[u64], n: usize, q: usize, one: bool) -> u64
     ensures { λ r. ⌜ Marked (side one (bitsOf (now (words .entry)) n)) q r ⌝ }
 {
     let whole = n / 64;
@@ -68,7 +68,7 @@ fn without(x: u64, q: usize, a: usize, e: usize) -> u64
 }
 
 // The bits from place a to before place e made zeros.
-pub fn clear(words: &mut [u64], a: usize, e: usize)
+pub(crate) fn clear(words: &mut [u64], a: usize, e: usize)
     requires { ⌜ a ≤ e ⌝ }
     ensures { λ _. ⌜ now (words .exit) ≡ cleared (now (words .entry)) a (e - a) ⌝ }
 {

@@ -38,7 +38,7 @@ fn entries(c: Counts, level: usize) -> SparseOneNnd
 }
 
 // Where the parts of the next level start.
-pub fn above(c: Counts, level: usize, at: At) -> At
+pub(crate) fn above(c: Counts, level: usize, at: At) -> At
     requires { ⌜ (level < 4) × Counted (levelIn c level) at ⌝ }
     ensures { λ r. ⌜ r ≡ pastAt (levelIn c level) at ⌝ }
 {
@@ -59,7 +59,7 @@ pub fn above(c: Counts, level: usize, at: At) -> At
 }
 
 // How many flagged places stand at or before a place.
-pub fn rank(
+pub(crate) fn rank(
     bytes: &[u8],
     middles: &[u16],
     larges: &[u64],
@@ -80,7 +80,7 @@ pub fn rank(
 }
 
 // The r-th flagged place.
-pub fn select(
+pub(crate) fn select(
     bytes: &[u8],
     middles: &[u16],
     larges: &[u64],
@@ -115,7 +115,7 @@ fn own_block(q: usize, p: usize) -> Step
 }
 
 // "the last flagged place at or before p", in p's own block.
-pub fn pred(
+pub(crate) fn pred(
     bytes: &[u8],
     middles: &[u16],
     larges: &[u64],

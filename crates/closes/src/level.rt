@@ -47,7 +47,7 @@ fn count(n: usize, up: bool) -> Step
 }
 
 // "If the word holds it, that one": the word is searched with zeros past the length.
-pub fn in_word(words: &[u64], bits: usize, place: usize) -> Step
+pub(crate) fn in_word(words: &[u64], bits: usize, place: usize) -> Step
     ensures { λ r. ⌜ stepOf r ≡ inWord (bitsOf (now (words .entry)) bits) 0 (suc place) (63 - place % 64) ⌝ }
 {
     let mut depth: usize = 0;
@@ -66,7 +66,7 @@ pub fn in_word(words: &[u64], bits: usize, place: usize) -> Step
 }
 
 // "opens less closes from q up to before p".
-pub fn relative_level(words: &[u64], bits: usize, q: usize, p: usize) -> Step
+pub(crate) fn relative_level(words: &[u64], bits: usize, q: usize, p: usize) -> Step
     ensures { λ r. ⌜ stepOf r ≡ excess (bitsOf (now (words .entry)) bits) 0 q (p - q) ⌝ }
 {
     let mut depth: usize = 0;
@@ -128,7 +128,7 @@ fn walk_left(words: &[u64], bits: usize, d: usize, c: usize) -> Step
 }
 
 // "if d is 0 the answer is c. Otherwise walk left".
-pub fn far_child(words: &[u64], bits: usize, d: usize, c: usize) -> Step
+pub(crate) fn far_child(words: &[u64], bits: usize, d: usize, c: usize) -> Step
     ensures { λ r. ⌜ stepOf r ≡ fromClose (bitsOf (now (words .entry)) bits) d c ⌝ }
 {
     if d == 0 {
@@ -138,7 +138,7 @@ pub fn far_child(words: &[u64], bits: usize, d: usize, c: usize) -> Step
 }
 
 // The close of an open, if its word holds it.
-pub fn near_close(words: &[u64], bits: usize, p: usize) -> Near
+pub(crate) fn near_close(words: &[u64], bits: usize, p: usize) -> Near
     ensures { λ r. ⌜ NearIs (bitsOf (now (words .entry)) bits) p r ⌝ }
 {
     if !open_at(words, bits, p) {
@@ -155,7 +155,7 @@ pub fn near_close(words: &[u64], bits: usize, p: usize) -> Near
 }
 
 // The close of p from that of q, the last flagged place at or before it.
-pub fn from_pioneer(words: &[u64], bits: usize, p: usize, q: usize, c: usize) -> Step
+pub(crate) fn from_pioneer(words: &[u64], bits: usize, p: usize, q: usize, c: usize) -> Step
     ensures { λ r. ⌜ Finds r (test (ltb c bits) (andThen (excess (bitsOf (now (words .entry)) bits) 0 q (p - q)) (λ d. fromClose (bitsOf (now (words .entry)) bits) d c))) ⌝ }
 {
     if bits <= c {

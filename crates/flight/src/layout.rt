@@ -13,7 +13,7 @@ ghost use Rattle.flight.specs.Calls.{call, replied};
 pub const SHORT: usize = 15;
 
 // A record of fewer than 18 numbers, or an `out` of fewer than four.
-pub fn short(counts: usize, out: usize) -> bool
+pub(crate) fn short(counts: usize, out: usize) -> bool
     ensures { λ r. ⌜ r ≡ layout.short counts out ⌝ }
 {
     if counts < 18 {
@@ -46,7 +46,7 @@ fn four_at(counts: &[usize], at: usize) -> [usize; 4]
 }
 
 // The record that the numbers say.
-pub fn counts_of(counts: &[usize]) -> Counts
+pub(crate) fn counts_of(counts: &[usize]) -> Counts
     ensures { λ r. ⌜ treeIn r ≡ treeAt (now (counts .entry)) ⌝ }
 {
     let nodes = number(counts, 0);
@@ -76,7 +76,7 @@ fn put_four(s: &mut [usize], at: usize, a: [usize; 4])
 }
 
 // The numbers that say a record.
-pub fn put_counts(counts: &mut [usize], c: Counts)
+pub(crate) fn put_counts(counts: &mut [usize], c: Counts)
     requires { ⌜ 18 ≤ length (now counts) ⌝ }
     ensures { λ _. ⌜ now (counts .exit) ≡ sets (now (counts .entry)) 0 (numbersOf (treeIn c)) ⌝ }
 {
@@ -93,7 +93,7 @@ pub fn put_counts(counts: &mut [usize], c: Counts)
 }
 
 // A reply into `out`.
-pub fn tell(out: &mut [usize], r: Reply) -> usize
+pub(crate) fn tell(out: &mut [usize], r: Reply) -> usize
     requires { ⌜ 4 ≤ length (now out) ⌝ }
     ensures { λ n. ⌜ call n (now (out .exit)) ≡ replied r (now (out .entry)) ⌝ }
 {

@@ -56,13 +56,13 @@ fn of_refusal(r: Refusal) -> Reply
     }
 }
 
-pub fn of_node(n: Node) -> Reply
+pub(crate) fn of_node(n: Node) -> Reply
     ensures { λ x. ⌜ numbers x ≡ reply ofNode (answers.is (nodeOf n)) ⌝ }
 {
     found(n.place, n.id, 0)
 }
 
-pub fn of_edge(e: Linked) -> Reply
+pub(crate) fn of_edge(e: Linked) -> Reply
     ensures { λ x. ⌜ numbers x ≡ reply ofEdge (saidEdge e) ⌝ }
 {
     match e {
@@ -72,7 +72,7 @@ pub fn of_edge(e: Linked) -> Reply
     }
 }
 
-pub fn of_label(b: Labelled) -> Reply
+pub(crate) fn of_label(b: Labelled) -> Reply
     ensures { λ x. ⌜ numbers x ≡ reply ofNumber (saidLabel b) ⌝ }
 {
     match b {
@@ -82,7 +82,7 @@ pub fn of_label(b: Labelled) -> Reply
     }
 }
 
-pub fn of_number(n: Number) -> Reply
+pub(crate) fn of_number(n: Number) -> Reply
     ensures { λ x. ⌜ numbers x ≡ reply ofNumber (saidNumber n) ⌝ }
 {
     match n {
@@ -101,7 +101,7 @@ fn of_bool(b: bool) -> Reply
     found(0, 0, 0)
 }
 
-pub fn of_truth(t: Truth) -> Reply
+pub(crate) fn of_truth(t: Truth) -> Reply
     ensures { λ x. ⌜ numbers x ≡ reply ofTruth (saidTruth t) ⌝ }
 {
     match t {
@@ -110,7 +110,7 @@ pub fn of_truth(t: Truth) -> Reply
     }
 }
 
-pub fn of_close(c: Closed) -> Reply
+pub(crate) fn of_close(c: Closed) -> Reply
     ensures { λ x. ⌜ numbers x ≡ reply ofNumber (said c) ⌝ }
 {
     match c {
@@ -121,7 +121,7 @@ pub fn of_close(c: Closed) -> Reply
     }
 }
 
-pub fn of_bit(g: Got) -> Reply
+pub(crate) fn of_bit(g: Got) -> Reply
     ensures { λ x. ⌜ numbers x ≡ reply ofNumber (saidBit g) ⌝ }
 {
     match g {
@@ -132,7 +132,7 @@ pub fn of_bit(g: Got) -> Reply
 }
 
 // What build and growth say: the nodes, or the refusal.
-pub fn of_built(b: Built) -> Reply
+pub(crate) fn of_built(b: Built) -> Reply
     ensures { λ x. ⌜ numbers x ≡ reply ofTree (built.said b) ⌝ }
 {
     let v = b.verdict;
@@ -151,7 +151,7 @@ pub fn of_built(b: Built) -> Reply
     }
 }
 
-pub fn of_walked(w: Walked) -> Reply
+pub(crate) fn of_walked(w: Walked) -> Reply
     ensures { λ x. ⌜ numbers x ≡ reply ofNumber (walked.said w) ⌝ }
 {
     match w {

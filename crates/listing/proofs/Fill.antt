@@ -1,17 +1,18 @@
 -- Filling two slices with the values of an input, line by line.
 use mathlib.Core.Path.{_≡_, refl, sym, ap, ap₂, subst, _∙_}
 use mathlib.Core.Bool.{_&&_}
-use mathlib.Core.List.{List, _++_, map}
-use Prim.Native.Nat.{ℕ, zero, suc, _+_, _-_, _<_, _≤_}
+use mathlib.Core.List.{List, map}
+use Prim.Native.Nat.{ℕ, suc, _+_, _-_, _<_, _≤_}
 use native.Mathlib.Omega.{arith}
 use borrow.Author.Tests.{le-leb, lt-leb}
 use lib.Dec.{leb}
 use lib.ListN.{length, drop, set, replicate, length-replicate, length-set, length-drop, drop-of-length-le, length-map}
-use lib.Seq.{drop-cons, sets, sets-eq}
+use lib.Seq.{drop-cons, sets}
 use Rattle.meaning.specs.Answers.{Answer, is, nothing, refused}
 use Rattle.meaning.specs.Areas.{filled}
 use Rattle.meaning.specs.Listing.{Entry, levelOf, labelOf, row, Text, after, lines, textOf, badText, Reading, reading, outcome, readOf}
 use Rattle.meaning.proofs.If.{if-true, if-false, and-true}
+use Rattle.meaning.proofs.Runs.{sets-zeros}
 use Rattle.meaning.proofs.ReadList.{lines-none, lines-over, lines-row, lines-bad, list-spelt}
 use Rattle.listing.specs.Said.{saidLine}
 use Rattle.listing.specs.declared.Line.{Line}
@@ -23,18 +24,9 @@ zeros n = replicate n 0
 length-zeros : (n : ℕ) → length (zeros n) ≡ n
 length-zeros n = length-replicate n 0
 
-drop-zeros : (j m : ℕ) → drop j (zeros m) ≡ zeros (m - j)
-drop-zeros zero m = let e : m ≡ m - 0 = omega arith in ap zeros e
-drop-zeros (suc j) zero = let e : 0 ≡ 0 - suc j = omega arith in ap zeros e
-drop-zeros (suc j) (suc m) = drop-zeros j m ∙ (let e : m - j ≡ suc m - suc j = omega arith in ap zeros e)
-
 -- the values stored from the start of zeros
 filled-sets : (m : ℕ) (vs : List ℕ) → length vs ≤ m → filled m vs ≡ sets (zeros m) 0 vs
-unfolding filled
-filled-sets m vs l =
-    let u : 0 + length vs ≤ length (zeros m) = omega (arith, length-zeros m) in
-    let e : length vs ≡ 0 + length vs = omega arith in
-    sym (sets-eq vs (zeros m) 0 u ∙ ap (λ (t : List ℕ). vs ++ t) (ap (λ (j : ℕ). drop j (zeros m)) (sym e) ∙ drop-zeros (length vs) m))
+filled-sets m vs l = sym (sets-zeros m 0 vs refl l)
 
 pub readings : {r r′ : Answer ℕ} {ls ls′ bs bs′ : List ℕ} → r ≡ r′ → ls ≡ ls′ → bs ≡ bs′ → reading r ls bs ≡ reading r′ ls′ bs′
 readings p q t = λ i. reading (p i) (q i) (t i)

@@ -10,16 +10,11 @@ use lib.Dec.{leb}
 use lib.ListN.{length, getD, take, drop, set, length-append, take-append-drop}
 use lib.Seq.{sets, length-sets, set-out, take-suc, take-all}
 use Rattle.meaning.specs.Listing.{digits}
+use Rattle.meaning.proofs.Runs.{sets-append}
 use Rattle.meaning.proofs.Spelling.{digits-small, digits-large}
 use Rattle.listing.specs.Said.{Puts, putBy, putOf}
 use Rattle.listing.specs.declared.Put.{Put}
 use Rattle.listing.specs.declared.Put.the-variants as put
-
-pub sets-append : (s : List ℕ) (a : ℕ) (xs ys : List ℕ) → sets s a (xs ++ ys) ≡ sets (sets s a xs) (a + length xs) ys
-sets-append s a [] ys = let e : a ≡ a + 0 = omega arith in ap (λ (j : ℕ). sets s j ys) e
-sets-append s a (x ∷ xs) ys =
-    let e : suc a + length xs ≡ a + suc (length xs) = omega arith in
-    sets-append (set s a x) (suc a) xs ys ∙ ap (λ (j : ℕ). sets (sets (set s a x) (suc a) xs) j ys) e
 
 sets-past : (s : List ℕ) (a : ℕ) (xs : List ℕ) → length s ≤ a → sets s a xs ≡ s
 sets-past s a [] l = refl

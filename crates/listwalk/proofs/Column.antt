@@ -30,7 +30,7 @@ use Rattle.questions.specs.declared.Linked.{Linked}
 use Rattle.questions.specs.declared.Linked.the-variants as linked
 use Rattle.questions.proofs.Built.{next-sibling-matches}
 use Rattle.listing.specs.Said.{idsIn}
-use Rattle.listing.proofs.Putting.{sets-append}
+use Rattle.meaning.proofs.Runs.{sets-append}
 use Rattle.listwalk.specs.Standing.{Standing}
 
 module _ {vs : List ℕ} {c : Counts} {w b m g u : List ℕ} {k : ℕ} (s : Standing vs c w b m g u) (h : k < length vs) where

@@ -44,7 +44,7 @@ fn sibling_of(
 }
 
 // The next siblings of all nodes, at the front of out.
-pub fn siblings_of(
+pub(crate) fn siblings_of(
     levels: &[u32],
     words: &[u64],
     bytes: &[u8],

@@ -93,7 +93,7 @@ fn write_verdict(out: &mut [u8], v: Verdict) -> Put
 }
 
 // The listing of levels and labels, or the refusal of their build.
-pub fn listed(levels: &[u32], labels: &[u32], out: &mut [u8]) -> Put
+pub(crate) fn listed(levels: &[u32], labels: &[u32], out: &mut [u8]) -> Put
     requires { ⌜ (length (now levels) ≡ length (now labels)) × (length (now levels) ≤ 512) ⌝ }
     ensures { λ r. ⌜ Puts (now (out .entry)) 0 (built (levelRule (offending (now (levels .entry)))) (now (levels .entry)) (now (labels .entry))) r (now (out .exit)) ⌝ }
 {

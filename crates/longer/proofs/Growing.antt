@@ -7,8 +7,8 @@ use Prim.Native.Nat.{ℕ, zero, suc, _+_, _*_, _-_, _≤_, _<_}
 use native.Mathlib.Decide.{decLt}
 use native.Mathlib.Omega.{arith}
 use lib.Dec.{leb}
-use lib.ListN.{length, getD, set, take, drop, replicate, length-append, length-drop, length-replicate, replicate-append-replicate, List·getD-append, List·getD-eq-default}
-use lib.Seq.{take-at, getD-append-add}
+use lib.ListN.{length, getD, set, take, drop, replicate, length-append, length-drop, length-replicate, List·getD-append, List·getD-eq-default}
+use lib.Seq.{getD-append-add}
 use borrow.Author.Tests.{le-leb, lt-leb, leb-true, eqb-true}
 use Rattle.meaning.specs.Answers.{Refusal}
 use Rattle.meaning.specs.Bits.{bitAt, bitsOf, pack, wordCount}
@@ -22,6 +22,7 @@ use Rattle.meaning.proofs.OneRoot.{one-root-test, one-root-held}
 use Rattle.meaning.proofs.Offending.{offending-none, offending-snoc}
 use Rattle.meaning.proofs.FromString.{count-of, most-last, may-come, grown-is}
 use Rattle.meaning.proofs.Count.{in-length}
+use Rattle.meaning.proofs.Runs.{take-zeros}
 use Rattle.pioneers.specs.Placed.{placing, holding, listChecks}
 use Rattle.pioneers.proofs.Parts.{part-is, part-new}
 use Rattle.longer.specs.Longer.{said, longerChecks, longerIn, LastOne, Turning}
@@ -86,13 +87,6 @@ module _ (ws : List ℕ) (n m : ℕ) (r : Bool) (q : r ≡ soundIn ws n m) (u : 
           copying = record { held = past-test .held; room = omega (arith, ap length (part-is z (n + 2)) ∙ length-drop (n + 2) z, past-test .count) };
           inside = omega (arith, high ws n m p past-test l);
         }
-
--- k words of zeros, t of them first
-take-zeros : (t k : ℕ) → t ≤ k → take t (replicate {A = ℕ} k 0) ≡ replicate t 0
-take-zeros t k h =
-    let e : t + (k - t) ≡ k = omega arith in
-    ap (take t) (ap (λ (x : ℕ). replicate x 0) (sym e) ∙ sym (replicate-append-replicate t (k - t) 0))
-    ∙ take-at (replicate t 0) (replicate (k - t) 0) t (length-replicate t 0)
 
 -- closes at the end of a string add no word that is not zero
 two-closes : (k : ℕ) (l : List Bool) → pack k l ≡ pack k (l ++ false ∷ false ∷ [])

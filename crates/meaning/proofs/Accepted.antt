@@ -25,7 +25,7 @@ pub check-false : {b : Bool} (n : ℕ) (l : List ℕ) → b ≡ false → check 
 unfolding check
 check-false n l e = rw (e, check)
 
-level-none : (o : Option ℕ) → levelRule o ≡ none → o ≡ none
+pub level-none : (o : Option ℕ) → levelRule o ≡ none → o ≡ none
 unfolding levelRule
 level-none none e = refl
 level-none (some k) e = absurd (let z : _≡_ {A = ℕ} 0 1 = cc in omega arith)

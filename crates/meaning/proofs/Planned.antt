@@ -2,22 +2,20 @@
 use mathlib.Core.Path.{_≡_, refl, sym, ap, _∙_}
 use mathlib.Core.Bool.{Bool, true, false}
 use mathlib.Core.Option.{Option, none, some}
-use mathlib.Core.List.{List, [], _∷_, _++_}
-use Prim.Native.Nat.{ℕ, zero, suc, _+_, _*_, _-_, _/_, _≤_, _<_}
-use native.Mathlib.Nat.{zero-add}
+use mathlib.Core.List.{List, [], _∷_}
+use Prim.Native.Nat.{ℕ, _+_, _*_, _-_, _/_, _≤_, _<_}
 use native.Mathlib.Omega.{arith}
 use lib.Dec.{leb}
-use lib.ListN.{length, getD, drop, replicate, length-replicate}
-use lib.Seq.{sets, sets-eq}
+use lib.ListN.{length, getD, replicate, length-replicate}
 use borrow.Author.Tests.{le-leb, lt-leb, leb-true}
-use Rattle.meaning.specs.Answers.{Refusal, Answer, is, nothing, refused, broken}
+use Rattle.meaning.specs.Answers.{Refusal, Answer, is, refused, broken}
 use Rattle.meaning.specs.Bits.{bitsOf}
 use Rattle.meaning.specs.Dictionary.{Dict, dictOf}
-use Rattle.meaning.specs.Areas.{filled}
 use Rattle.meaning.specs.Refusals.{refuse, check, fullBlock, fullAt, firstOf}
 use Rattle.meaning.specs.Direct.{DictRooms, Entries, DictAfter, DictAccepted, mostBits, dictRefusal, entriesOf, dictPlan, dictWritten, dictZeroed, dictBuild, dictRooms, dictPut, dictWrite}
 use Rattle.meaning.proofs.If.{if-none, if-some}
 use Rattle.meaning.proofs.Accepted.{check-none, check-true, check-false, first-none}
+use Rattle.meaning.proofs.Runs.{sets-zeros}
 use Rattle.meaning.proofs.Direct.{full-none, dict-exactly}
 
 -- what a plan that fits says
@@ -143,18 +141,6 @@ unfolding dictRefusal firstOf fullAt
 refused-full ws n rooms b p = rw (inside ws n (p .inside), few ws n (p .inside) (p .few), p .full)
 
 -- a write over zeros, past nothing, is a build
-drop-zeros : (k n : ℕ) → _≡_ {A = List ℕ} (drop k (replicate n 0)) (replicate (n - k) 0)
-drop-zeros zero n = let u : n ≡ n - 0 = omega arith in ap (λ (k : ℕ). replicate k 0) u
-drop-zeros (suc k) zero = let u : 0 ≡ 0 - suc k = omega arith in ap (λ (k : ℕ). replicate k 0) u
-drop-zeros (suc k) (suc n) = let u : n - k ≡ suc n - suc k = omega arith in drop-zeros k n ∙ ap (λ (k : ℕ). replicate k 0) u
-
-sets-zeros : (k o : ℕ) (d : List ℕ) → o ≡ 0 → length d ≤ k → sets (replicate k 0) o d ≡ filled k d
-unfolding filled
-sets-zeros k o d e h =
-    ap (λ (i : ℕ). sets (replicate k 0) i d) e
-    ∙ sets-eq d (replicate k 0) 0 (omega (arith, length-replicate {A = ℕ} k 0))
-    ∙ ap (λ (t : List ℕ). d ++ t) (ap (λ (i : ℕ). drop i (replicate k 0)) (zero-add (length d)) ∙ drop-zeros (length d) k)
-
 abbrev noEntries : Entries
 noEntries = record { bytes = 0; middle = 0; large = 0 }
 

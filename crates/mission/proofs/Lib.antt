@@ -1,2 +1,2 @@
-mod Five
+pub mod Lent
 pub mod Mission

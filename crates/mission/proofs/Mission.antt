@@ -1,179 +1,211 @@
--- THE DEMANDS about calls, from the contracts of build, growth and the questions alone.
-use mathlib.Core.Path.{_≡_, refl, sym, ap, ap₂, _∙_}
+-- THE END: the demands, from the contracts of build, growth and the questions alone.
+use mathlib.Core.Path.{_≡_, refl, sym, ap, _∙_}
 use mathlib.Core.Option.{Option, none, some}
 use mathlib.Core.List.{List, [], _∷_, _++_}
-use Prim.Native.Nat.{ℕ, pred}
-use lib.ListN.{length, getD, replicate}
-use Rattle.meaning.specs.Answers.{Answer, is, nothing}
+use Prim.Native.Nat.{ℕ, suc, pred, _+_, _-_, _<_}
+use native.Mathlib.Omega.{arith}
+use lib.ListN.{length, getD, replicate, List·getD-append}
+use lib.Seq.{getD-append-add}
+use borrow.Author.Tests.{lt-ltb}
+use Rattle.meaning.specs.Answers.{Answer, is, broken, provided}
 use Rattle.meaning.specs.String.{string}
-use Rattle.meaning.specs.Child.{Node, IsNode, child, root}
+use Rattle.meaning.specs.Child as child
+use Rattle.meaning.specs.Child.{IsNode, root}
 use Rattle.meaning.specs.Sibling.{next}
+use Rattle.meaning.specs.Walk.{plain}
+use Rattle.meaning.specs.Walking as walking
 use Rattle.meaning.specs.Kin.{nodeAt}
 use Rattle.meaning.specs.Areas.{filled}
-use Rattle.meaning.specs.Refusals.{Accepted}
-use Rattle.meaning.specs.Build.{Lent, Tree, roomsOf, treeOf, lentOf}
-use Rattle.meaning.specs.Questions.{Edge, edge, edgeOf, heard, asking, closeIn, leavesBelow, nodesIn, bytesHeld}
-use Rattle.meaning.specs.Walking.{walking}
-use Rattle.meaning.specs.Change.{Question, childOf, siblingOf, asked, answer}
-use Rattle.meaning.specs.Demands.{Answered, Grows, edgeIn}
-use Rattle.meaning.proofs.Questions as built
+use Rattle.meaning.specs.Refusals.{refusal, Accepted}
+use Rattle.meaning.specs.Build.{Lent, Tree, roomsOf, treeOf, lentOf, zeroed, build}
+use Rattle.meaning.specs.Change.{Question, childOf, siblingOf, asked, answer, AnswersGrow}
+use Rattle.meaning.specs.Questions.{edge, closeIn, firstChild, nextSibling, heard, asking, edgeOf, labelOf, labelIn, leavesBelow, nodesIn, bytesHeld}
+use Rattle.meaning.specs.Demands.{Answered, edgeIn, Grows}
+use Rattle.meaning.proofs.Accepted.{accepted-exactly}
+use Rattle.meaning.proofs.Kin.{node-of, kin, root-kin}
+use Rattle.meaning.proofs.If.{if-none}
+use Rattle.meaning.proofs.Questions.{asked-none}
+use Rattle.meaning.proofs.Walking.{walk-returns}
 use Rattle.record.specs.Record.{treeIn}
-use Rattle.record.specs.declared.Counts.{Counts}
-use Rattle.closes.specs.declared.Closed.the-variants as closed
-use Rattle.closes.proofs.Agree.{closes-agree}
-use Rattle.questions.specs.Said.{saidEdge}
+use Rattle.closes.proofs.Built.{get-close-matches}
+use Rattle.questions.specs.Said.{saidEdge, saidNumber}
 use Rattle.questions.specs.declared.Linked.{Linked}
 use Rattle.questions.specs.declared.Linked.the-variants as linked
-use Rattle.questions.proofs.Agree.{edges-agree}
-use Rattle.walk.specs.Said.{roomsAt}
+use Rattle.questions.specs.declared.Labelled.{Labelled}
+use Rattle.questions.specs.declared.Labelled.the-variants as labelled
+use Rattle.questions.specs.declared.Number.{Number}
+use Rattle.questions.specs.declared.Number.the-variants as number
+use Rattle.questions.proofs.Agree.{edges-agree, labels-agree, numbers-agree}
+use Rattle.questions.proofs.Built.{child-lent, sibling-lent, first-child-matches, next-sibling-matches}
 use Rattle.walk.specs.declared.Walked.the-variants as walked
+use Rattle.walk.specs.Said as walk
 use Rattle.walk.proofs.Agree.{walks-agree}
 use Rattle.balanced_parens.specs.Contract.{Builds, GrowsTo}
 use Rattle.balanced_parens.specs.Demands.{treeAt}
 use Rattle.balanced_parens.specs.declared.answer.Built.{Built}
-use Rattle.balanced_parens.proofs.Demands.{tells, none-refuses, tree-answers, grow-builds, growth-demand}
-use Rattle.mission.specs.Calls.{Links, Hears}
-use Rattle.mission.specs.Mission.{Tells, OneDiffers}
-use Rattle.mission.proofs.Five.{close-five, edge-five, leaves-five, nodes-five, size-five, walking-five}
+use Rattle.balanced_parens.proofs.Outcome.{Says, says}
+use Rattle.balanced_parens.proofs.Demands.{tree-answers, grow-builds, growth-demand}
+use Rattle.mission.specs.Contracts.{catalogue, nodeIn, FirstChild, NextSibling, Asks, Label}
+use Rattle.mission.specs.Mission.{TreeAsked, GrowthAsked}
+use Rattle.mission.proofs.Lent.{walk-lent, label-lent, leaves-lent, nodes-lent, size-lent}
 
--- an answer to a question is the edge of the record and the areas
-links-edge : (c : Counts) (z : Lent) (q : Question) (s : Linked) → Links c z q s → saidEdge s ≡ edgeIn (treeIn c) z q
-unfolding edgeIn
-links-edge c z (childOf n) s e = e ∙ edge-five (treeIn c) z (childOf n)
-links-edge c z (siblingOf n) s e = e ∙ edge-five (treeIn c) z (siblingOf n)
+-- ---- build, and a question
 
--- an answer at a node of the string: none, or the node
-step-of : List ℕ → Question → Option Node
-step-of vs (childOf n) = child (string vs) n
-step-of vs (siblingOf n) = next (string vs) n
+same-tree : (s t : Tree) → _≡_ {A = Answer Tree} (is s) (is t) → s ≡ t
+same-tree s t e = cc
 
 module _ (vs bs : List ℕ) (a z : Lent) (r : Built) (b : Builds vs bs a z r) (acc : Accepted vs bs (roomsOf a)) where
-  abbrev c : Counts
-  c = r .counts
+  tells : Says (treeOf vs) (lentOf vs bs (roomsOf a)) (zeroed (roomsOf a)) z r (refusal vs bs (roomsOf a))
+  unfolding build
+  tells = says (treeOf vs) (lentOf vs bs (roomsOf a)) (zeroed (roomsOf a)) z r (refusal vs bs (roomsOf a)) (b .outcome)
 
-  abbrev told : Answered vs bs (record { reply = is (treeIn c); areas = z })
-  told = tree-answers vs bs a z r b acc .answered
+  tree : treeIn (r .counts) ≡ treeOf vs
+  tree = tells .tree (accepted-exactly vs bs (roomsOf a) .1 acc)
 
-  same-tree : treeIn c ≡ told .tree
-  same-tree = let e = told .built in cc
+  areas : z ≡ lentOf vs bs (roomsOf a)
+  areas = tells .areas (accepted-exactly vs bs (roomsOf a) .1 acc)
 
-  hears : (q : Question) (x : Answer Edge) → edgeIn (told .tree) z q ≡ x → Hears c z q x
-  hears q x e s l = links-edge c z q s l ∙ ap (λ t. edgeIn t z q) same-tree ∙ e
+  -- the two questions of a node of the string
+  child-is : (n : child.Node) (x : Linked) → IsNode (string vs) n → FirstChild r z (nodeIn n) x → saidEdge x ≡ edgeOf bs (child.child (string vs) n)
+  child-is n x i f =
+      first-child-matches vs bs (roomsOf a) acc (r .counts) tree (nodeIn n) i x (f ∙ ap (λ y. firstChild (treeIn (r .counts)) (catalogue y) n) areas)
+
+  sibling-is : (n : child.Node) (x : Linked) → IsNode (string vs) n → NextSibling r z (nodeIn n) x → saidEdge x ≡ edgeOf bs (next (string vs) n)
+  sibling-is n x i f =
+      next-sibling-matches vs bs (roomsOf a) acc (r .counts) tree (nodeIn n) i x (f ∙ ap (λ y. nextSibling (treeIn (r .counts)) (catalogue y) n) areas)
+
+  pub asked-is : (q : Question) (x : Linked) → IsNode (string vs) (asked q) → Asks r z q x → saidEdge x ≡ edgeOf bs (answer (plain (string vs)) q)
+  unfolding asked answer
+  asked-is (childOf n) x i f = child-is n x i f
+  asked-is (siblingOf n) x i f = sibling-is n x i f
+
+  -- an edge to the node of list place k, and none
+  leads : (x : Linked) (k : ℕ) (o : Option child.Node) → saidEdge x ≡ edgeOf bs o → o ≡ some (nodeAt vs k)
+      → x ≡ linked.Edge (nodeIn (nodeAt vs k)) (getD bs k 0)
+  unfolding edgeOf nodeAt
+  leads x k o e f = edges-agree x (linked.Edge (nodeIn (nodeAt vs k)) (getD bs k 0)) (e ∙ ap (edgeOf bs) f)
+
+  ends : (x : Linked) (o : Option child.Node) → saidEdge x ≡ edgeOf bs o → o ≡ none → x ≡ linked.Nothing
+  unfolding edgeOf
+  ends x o e f = edges-agree x linked.Nothing (e ∙ ap (edgeOf bs) f)
+
+  -- a number: the areas and the record in the place of what is lent
+  numbers : (x : Number) (n : ℕ) (f : Tree → Lent → Answer ℕ) → ((t : Tree) (y : Lent) → f t (catalogue y) ≡ f t y) → saidNumber x ≡ f (treeIn (r .counts)) (catalogue z)
+      → f (treeIn (r .counts)) z ≡ is n → x ≡ number.Is n
+  numbers x n f l e h = numbers-agree x (number.Is n) (e ∙ l (treeIn (r .counts)) z ∙ h)
+
+  -- the demand's own answers
+  abbrev own : Answered vs bs (treeAt r z)
+  own = tree-answers vs bs a z r b acc .answered
+
+  own-tree : own .tree ≡ treeIn (r .counts)
+  own-tree = sym (same-tree (treeIn (r .counts)) (own .tree) (own .built))
+
+  label-is : (k : ℕ) (x : Labelled) → k < length vs → Label r z (nodeIn (nodeAt vs k)) x → x ≡ labelled.Is (getD bs k 0)
+  unfolding labelIn labelOf lentOf filled provided treeOf nodeAt
+  label-is k x h f =
+      labels-agree x (labelled.Is (getD bs k 0))
+      (f ∙ label-lent (treeIn (r .counts)) z (nodeAt vs k) ∙ ap (λ t. labelIn t z (nodeAt vs k)) tree ∙ ap (λ y. labelIn (treeOf vs) y (nodeAt vs k)) areas
+      ∙ if-none _ _ (asked-none vs bs (roomsOf a) acc (nodeAt vs k) (node-of vs (acc .rule) k h))
+      ∙ ap (λ t. provided t broken (is (getD (filled (roomsOf a .labels) bs) k 0))) (lt-ltb k (length vs) h)
+      ∙ ap is (List·getD-append bs (replicate (roomsOf a .labels - length bs) 0) 0 k (omega (arith, acc .same))))
 
   -- Demand 2
-  pub tells-list : Tells vs bs c z
-  unfolding edgeIn
-  tells-list =
+  pub tree-asked : TreeAsked vs bs z r
+  tree-asked =
       record {
-        close =
-            λ p o s f.
-            let m = told .close p o in
-            (m .0, closes-agree s (closed.At (m .0)) (f ∙ close-five (treeIn c) z p ∙ ap (λ t. closeIn t z p) same-tree ∙ m .1), m .2);
-        walk =
-            λ l m i j k s f.
-            let w = roomsAt (l .levels) (l .labels) (l .scratch) in
-            walks-agree (walking (told .tree) z w) s (walked.Is (length vs)) (m .levels) (filled (length (l .levels)) vs) (m .labels) (filled (length (l .labels)) bs) (m .scratch) (replicate (length (l .scratch)) 0)
-            (f ∙ walking-five (treeIn c) z w ∙ ap (λ t. walking t z w) same-tree)
-            (sym (told .walk w i j k));
-        child = λ k i h. hears (childOf (nodeAt vs k)) _ (told .child k i h);
-        no-child = λ k i h. hears (childOf (nodeAt vs k)) _ (told .no-child k i h);
-        sibling = λ k i h. hears (siblingOf (nodeAt vs k)) _ (told .sibling k i h);
-        no-sibling = λ k i h. hears (siblingOf (nodeAt vs k)) _ (told .no-sibling k i h);
-        root-child = λ i. hears (childOf root) _ (told .root-child i);
-        root-no-child = λ i. hears (childOf root) _ (told .root-no-child i);
-        root-no-sibling = hears (siblingOf root) _ (told .root-no-sibling);
-        nodes = λ s f. f ∙ nodes-five (treeIn c) z ∙ ap (λ t. nodesIn t z) same-tree ∙ told .nodes;
-        size = λ s f. f ∙ size-five (treeIn c) z ∙ ap (λ t. bytesHeld t z) same-tree ∙ told .size;
-        leaves = λ k i s f. f ∙ leaves-five (treeIn c) z (nodeAt vs k) ∙ ap (λ t. leavesBelow t z (nodeAt vs k)) same-tree ∙ told .leaves k i;
-        root-leaves = λ s f. f ∙ leaves-five (treeIn c) z root ∙ ap (λ t. leavesBelow t z root) same-tree ∙ told .root-leaves;
+        close = λ p x o f. get-close-matches vs bs (roomsOf a) acc (r .counts) tree p o x (f ∙ ap (λ y. closeIn (treeIn (r .counts)) (catalogue y) p) areas);
+        walk = λ us cs s us′ cs′ s′ x h i j f.
+            walks-agree _ x (walked.Is (length vs)) us′ (filled (length us) vs) cs′ (filled (length cs) bs) s′ (replicate (length s) 0)
+            (f ∙ ap (λ y. walking.walking (treeIn (r .counts)) (catalogue y) (walk.roomsAt us cs s)) areas
+            ∙ walk-lent (treeIn (r .counts)) (lentOf vs bs (roomsOf a)) (walk.roomsAt us cs s)
+            ∙ ap (λ y. walking.walking y (lentOf vs bs (roomsOf a)) (walk.roomsAt us cs s)) tree)
+            (sym (walk-returns vs bs (roomsOf a) acc (walk.roomsAt us cs s) h i j));
+        child = λ k x h i f. leads x (suc k) _ (child-is (nodeAt vs k) x (node-of vs (acc .rule) k h) f) (kin vs (acc .rule) k h .kid i);
+        no-child = λ k x h i f. ends x _ (child-is (nodeAt vs k) x (node-of vs (acc .rule) k h) f) (kin vs (acc .rule) k h .no-kid i);
+        sibling = λ k x h i f. leads x _ _ (sibling-is (nodeAt vs k) x (node-of vs (acc .rule) k h) f) (kin vs (acc .rule) k h .sib i);
+        no-sibling = λ k x h i f. ends x _ (sibling-is (nodeAt vs k) x (node-of vs (acc .rule) k h) f) (kin vs (acc .rule) k h .no-sib i);
+        root-child = λ x h f. leads x 0 _ (child-is root x (root-kin vs (acc .rule) .is) f) (root-kin vs (acc .rule) .kid h);
+        root-no-child = λ x h f. ends x _ (child-is root x (root-kin vs (acc .rule) .is) f) (root-kin vs (acc .rule) .no-kid h);
+        root-no-sibling = λ x f. ends x _ (sibling-is root x (root-kin vs (acc .rule) .is) f) (root-kin vs (acc .rule) .no-sib);
+        label = label-is;
+        nodes = λ x f. numbers x _ nodesIn nodes-lent f (ap (λ t. nodesIn t z) (sym own-tree) ∙ own .nodes);
+        size = λ x f. numbers x _ bytesHeld size-lent f (ap (λ t. bytesHeld t z) (sym own-tree) ∙ own .size);
+        leaves = λ k x h f.
+            numbers x _ (λ t y. leavesBelow t y (nodeAt vs k)) (λ t y. leaves-lent t y (nodeAt vs k)) f
+            (ap (λ t. leavesBelow t z (nodeAt vs k)) (sym own-tree) ∙ own .leaves k h);
+        root-leaves = λ x f.
+            numbers x _ (λ t y. leavesBelow t y root) (λ t y. leaves-lent t y root) f (ap (λ t. leavesBelow t z root) (sym own-tree) ∙ own .root-leaves);
       }
 
-  built-edge : (q : Question) → IsNode (string vs) (asked q) → edgeIn (treeOf vs) (lentOf vs bs (roomsOf a)) q ≡ edgeOf bs (step-of vs q)
-  unfolding edgeIn asked step-of
-  built-edge (childOf n) i = built.first-child vs bs (roomsOf a) acc n i
-  built-edge (siblingOf n) i = built.next-sibling vs bs (roomsOf a) acc n i
+-- ---- build, growth, and a question
 
-  edge-is : (q : Question) → IsNode (string vs) (asked q) → edgeIn (treeIn c) z q ≡ edgeOf bs (step-of vs q)
-  edge-is q i =
-      let t = tells vs bs a z r b in
-      let n = none-refuses vs bs a z r b acc in
-      ap₂ (λ x y. edgeIn x y q) (t .tree n) (t .areas n) ∙ built-edge q i
+-- by the questions themselves, which do not look at scratch
+asked-of : (r : Built) (z : Lent) (q : Question) (x : Linked) → Asks r z q x → saidEdge x ≡ edgeIn (treeIn (r .counts)) z q
+unfolding edgeIn
+asked-of r z (childOf n) x f = f ∙ child-lent (treeIn (r .counts)) z n
+asked-of r z (siblingOf n) x f = f ∙ sibling-lent (treeIn (r .counts)) z n
 
--- what is heard of an edge
-heard-edge : (bs : List ℕ) (o : Option Node) → heard (edgeOf bs o) ≡ o
-unfolding heard edgeOf
+heard-edge : (bs : List ℕ) (o : Option child.Node) → heard (edgeOf bs o) ≡ o
+unfolding edgeOf heard
 heard-edge bs none = refl
-heard-edge bs (some n) = refl
+heard-edge bs (some m) = refl
 
-answer-heard : (t : Tree) (z : Lent) (q : Question) → answer (asking t z) q ≡ heard (edgeIn t z q)
-unfolding answer edgeIn
-answer-heard t z (childOf n) = refl
-answer-heard t z (siblingOf n) = refl
+heard-of : (t : Tree) (z : Lent) (q : Question) → answer (asking t z) q ≡ heard (edgeIn t z q)
+unfolding edgeIn answer
+heard-of t z (childOf n) = refl
+heard-of t z (siblingOf n) = refl
 
--- so the answer gives the edge back
-edge-back : (bs : List ℕ) (t : Tree) (z : Lent) (q : Question) (o p : Option Node) → edgeIn t z q ≡ edgeOf bs o → answer (asking t z) q ≡ p → edgeIn t z q ≡ edgeOf bs p
-edge-back bs t z q o p e f = e ∙ ap (edgeOf bs) (sym (heard-edge bs o) ∙ ap heard (sym e) ∙ sym (answer-heard t z q) ∙ f)
+module _ (vs bs : List ℕ) (v b : ℕ) (a z₁ : Lent) (r₁ : Built) (acc : Accepted vs bs (roomsOf a)) (p₁ : Builds vs bs a z₁ r₁)
+    (z₂ : Lent) (r₂ : Built) (p₂ : GrowsTo (r₁ .counts) v b z₁ z₂ r₂) (acc⁺ : Accepted (vs ++ v ∷ []) (bs ++ b ∷ []) (roomsOf a)) where
+  p₃ : Builds (vs ++ v ∷ []) (bs ++ b ∷ []) a z₂ r₂
+  p₃ = grow-builds vs bs v b a z₁ r₁ acc p₁ z₂ r₂ p₂ acc⁺
 
-last-label : (bs : List ℕ) (b : ℕ) → getD (bs ++ b ∷ []) (length bs) 0 ≡ b
-last-label [] b = refl
-last-label (x ∷ bs) b = last-label bs b
+  g : Grows vs bs v b (treeAt r₁ z₁) (treeAt r₂ z₂) (treeAt r₂ z₂)
+  g = growth-demand vs bs v b a z₁ r₁ acc p₁ z₂ r₂ p₂ a z₂ r₂ refl p₃ acc⁺ .answers
 
--- ---- growth of what a build left
+  was : (q : Question) (x : Linked) → Asks r₁ z₁ q x → saidEdge x ≡ edgeIn (g .old) z₁ q
+  was q x f = asked-of r₁ z₁ q x f ∙ ap (λ t. edgeIn t z₁ q) (same-tree (treeIn (r₁ .counts)) (g .old) (g .was))
 
-module _ (vs bs : List ℕ) (v b : ℕ) (a z₁ : Lent) (r₁ : Built) (acc : Accepted vs bs (roomsOf a)) (p₁ : Builds vs bs a z₁ r₁) (z₂ : Lent) (r₂ : Built) (p₂ : GrowsTo (r₁ .counts) v b z₁ z₂ r₂) (acc⁺ : Accepted (vs ++ v ∷ []) (bs ++ b ∷ []) (roomsOf a)) where
-  abbrev bs⁺ : List ℕ
-  bs⁺ = bs ++ b ∷ []
+  is-now : (q : Question) (x : Linked) → Asks r₂ z₂ q x → saidEdge x ≡ edgeIn (g .new) z₂ q
+  is-now q x f = asked-of r₂ z₂ q x f ∙ ap (λ t. edgeIn t z₂ q) (same-tree (treeIn (r₂ .counts)) (g .new) (g .now))
 
-  longer : Builds (vs ++ v ∷ []) bs⁺ a z₂ r₂
-  longer = grow-builds vs bs v b a z₁ r₁ acc p₁ z₂ r₂ p₂ acc⁺
+  abbrev grew : AnswersGrow vs v (string vs) (string (vs ++ v ∷ [])) (asking (g .old) z₁) (asking (g .new) z₂)
+  grew = g .answers
 
-  abbrev grew : Grows vs bs v b (treeAt r₁ z₁) (treeAt r₂ z₂) (treeAt r₂ z₂)
-  grew = growth-demand vs bs v b a z₁ r₁ acc p₁ z₂ r₂ p₂ a z₂ r₂ refl longer acc⁺ .answers
+  new-label : getD (bs ++ b ∷ []) (pred (grew .new .id)) 0 ≡ b
+  new-label =
+      let u : pred (grew .new .id) ≡ length bs + 0 = omega (arith, grew .id, acc .same) in
+      ap (λ i. getD (bs ++ b ∷ []) i 0) u ∙ getD-append-add bs (b ∷ []) 0 0
 
-  was-tree : treeIn (r₁ .counts) ≡ grew .old
-  was-tree = let e = grew .was in cc
+  -- where it was nothing
+  none-there : (x : Linked) → Asks r₁ z₁ (grew .changed) x → x ≡ linked.Nothing
+  none-there x f =
+      let e = asked-is vs bs a z₁ r₁ p₁ acc (grew .changed) x (grew .older) f in
+      ends vs bs a z₁ r₁ p₁ acc x (answer (plain (string vs)) (grew .changed)) e
+      (sym (heard-edge bs (answer (plain (string vs)) (grew .changed))) ∙ ap heard (sym e ∙ was (grew .changed) x f)
+      ∙ sym (heard-of (g .old) z₁ (grew .changed)) ∙ grew .before)
 
-  now-tree : treeIn (r₂ .counts) ≡ grew .new
-  now-tree = let e = grew .now in cc
-
-  abbrev changed : Question
-  changed = grew .answers .changed
-
-  abbrev new : Node
-  new = grew .answers .new
-
-  -- nothing, before
-  was-nothing : edgeIn (treeIn (r₁ .counts)) z₁ changed ≡ nothing
+  -- it is the new node
+  new-there : (x : Linked) → Asks r₂ z₂ (grew .changed) x → x ≡ linked.Edge (nodeIn (grew .new)) b
   unfolding edgeOf
-  was-nothing =
-      edge-back bs (treeIn (r₁ .counts)) z₁ changed (step-of vs changed) none (edge-is vs bs a z₁ r₁ p₁ acc changed (grew .answers .older))
-      (ap (λ t. answer (asking t z₁) changed) was-tree ∙ grew .answers .before)
-
-  new-label : getD bs⁺ (pred (new .id)) 0 ≡ b
-  new-label = ap (λ k. getD bs⁺ (pred k) 0) (grew .answers .id) ∙ ap (λ k. getD bs⁺ k 0) (acc .same) ∙ last-label bs b
-
-  -- the new node, now
-  is-new : edgeIn (treeIn (r₂ .counts)) z₂ changed ≡ edge new b
-  unfolding edgeOf
-  is-new =
-      edge-back bs⁺ (treeIn (r₂ .counts)) z₂ changed (step-of (vs ++ v ∷ []) changed) (some new)
-      (edge-is (vs ++ v ∷ []) bs⁺ a z₂ r₂ longer acc⁺ changed (grew .answers .kept (asked changed) (grew .answers .older)))
-      (ap (λ t. answer (asking t z₂) changed) now-tree ∙ grew .answers .now)
-      ∙ ap (edge new) new-label
-
-  as-before : (q : Question) → IsNode (string vs) (asked q) → ¬ (q ≡ changed) → edgeIn (treeIn (r₁ .counts)) z₁ q ≡ edgeIn (treeIn (r₂ .counts)) z₂ q
-  as-before q i d = ap (λ t. edgeIn t z₁ q) was-tree ∙ sym (grew .others q i d) ∙ ap (λ t. edgeIn t z₂ q) (sym now-tree)
+  new-there x f =
+      let o = answer (plain (string (vs ++ v ∷ []))) (grew .changed) in
+      let e = asked-is (vs ++ v ∷ []) (bs ++ b ∷ []) a z₂ r₂ p₃ acc⁺ (grew .changed) x (grew .kept (asked (grew .changed)) (grew .older)) f in
+      let h : o ≡ some (grew .new) =
+      sym (heard-edge (bs ++ b ∷ []) o) ∙ ap heard (sym e ∙ is-now (grew .changed) x f) ∙ sym (heard-of (g .new) z₂ (grew .changed)) ∙ grew .now in
+      edges-agree x (linked.Edge (nodeIn (grew .new)) b) (e ∙ ap (edgeOf (bs ++ b ∷ [])) h ∙ ap (edge (grew .new)) new-label)
 
   -- Demand 3
-  pub one-differs : OneDiffers vs v b (r₁ .counts) z₁ (r₂ .counts) z₂
-  one-differs =
+  pub growth-asked : GrowthAsked vs v b z₁ z₂ r₁ r₂
+  growth-asked =
       record {
-        new = new;
-        changed = changed;
-        id = grew .answers .id;
-        older = grew .answers .older;
-        which = grew .answers .which;
-        now = λ s l. links-edge (r₂ .counts) z₂ changed s l ∙ is-new;
-        before = λ s l. edges-agree s linked.Nothing (links-edge (r₁ .counts) z₁ changed s l ∙ was-nothing);
-        others = λ q i d s s′ l l′. edges-agree s s′ (links-edge (r₁ .counts) z₁ q s l ∙ as-before q i d ∙ sym (links-edge (r₂ .counts) z₂ q s′ l′));
+        changed = grew .changed;
+        older = grew .older;
+        which = grew .which;
+        new = grew .new;
+        id = grew .id;
+        before = none-there;
+        now = new-there;
+        others = λ q i n x y f h. edges-agree x y (was q x f ∙ sym (g .others q i n) ∙ sym (is-now q y h));
       }

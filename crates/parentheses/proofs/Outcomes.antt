@@ -2,24 +2,24 @@
 use mathlib.Core.Path.{_≡_, refl, sym, ap, ap₂, _∙_, subst}
 use mathlib.Core.Bool.{Bool, true, false, _&&_}
 use mathlib.Core.Option.{Option, none, some}
-use mathlib.Core.List.{List, [], _∷_, _++_}
+use mathlib.Core.List.{List, [], _∷_}
 use Prim.Native.Nat.{ℕ, _+_, _-_, _*_, _/_, _≤_, _<_}
-use native.Mathlib.Nat.{zero-add}
 use native.Mathlib.Omega.{arith}
 use lib.Dec.{leb}
 use lib.ListN.{length, take, drop, replicate, length-replicate}
-use lib.Seq.{sets, sets-eq}
+use lib.Seq.{sets}
 use borrow.Author.Tests.{le-leb, lt-leb, leb-true}
 use Rattle.meaning.specs.Answers.{Refusal, is, refused, broken}
 use Rattle.meaning.specs.Bits.{bitsOf}
 use Rattle.meaning.specs.List.{greatest}
 use Rattle.meaning.specs.Family.{tower}
-use Rattle.meaning.specs.Areas.{Rooms, Held, areaWords, areaBytes, areaMiddle, areaLarge, filled, written, counted}
+use Rattle.meaning.specs.Areas.{Rooms, Held, areaWords, areaBytes, areaMiddle, areaLarge, written, counted}
 use Rattle.meaning.specs.Refusals.{check, fullFrom, firstOf}
 use Rattle.meaning.specs.Growth.{oneRoot}
 use Rattle.meaning.specs.Direct.{Entries}
 use Rattle.meaning.proofs.If.{if-true, if-false, if-none, if-some, and-true, clash}
 use Rattle.meaning.proofs.Accepted.{check-none, first-none}
+use Rattle.meaning.proofs.Runs.{sets-zeros}
 use Rattle.meaning.proofs.OneRoot.{one-root-test}
 use Rattle.meaning.proofs.Root.{root-walk}
 use Rattle.record.specs.Record.{treeIn, Sized}
@@ -30,7 +30,6 @@ use Rattle.pioneers.specs.Placed.{holding}
 use Rattle.pioneers.specs.Scratch.{textOf}
 use Rattle.pioneers.specs.declared.flags.Layout.{Layout}
 use Rattle.pioneers.proofs.Parts.{part-is}
-use Rattle.pioneers.proofs.Places.{drop-zeros}
 use Rattle.parentheses.specs.Plans.{said, isMade, aloneOf, sizesOf, SizesAre, PlanIs, Standing}
 use Rattle.parentheses.specs.Writes.{heldAt, put, Writing, WrittenIs}
 use Rattle.parentheses.specs.Raises.{layOf, stringIn, roomsAt, stringChecks, sizeChecks, saidRaised, madeOf, raising, raiseIn, refusedOf, Raises, Stands, Holds, Fills}
@@ -90,13 +89,6 @@ module _ (s : Sizes) (n words bytes middle large labels : ℕ) where
               sym (upto true true true (le-leb (2 * s .dict .middles) middle (omega arith)) (le-leb (2 * s .dict .larges) large (omega arith)) (le-leb n labels h))
 
 -- ---- the areas filled
-
-sets-zeros : (k o : ℕ) (v : List ℕ) → o ≡ 0 → length v ≤ k → sets (replicate k 0) o v ≡ filled k v
-unfolding filled
-sets-zeros k o v e h =
-    ap (λ (i : ℕ). sets (replicate k 0) i v) e
-    ∙ sets-eq v (replicate k 0) 0 (omega (arith, length-replicate {A = ℕ} k 0))
-    ∙ ap (λ (x : List ℕ). v ++ x) (drop-zeros (0 + length v) k ∙ ap (λ (n : ℕ). replicate (k - n) 0) (zero-add (length v)))
 
 module _ (scr : List ℕ) (n : ℕ) (w b m g : List ℕ) (s : Fills scr n (heldAt w b m g)) (w₀ b₀ m₀ g₀ : List ℕ)
     (ew : w₀ ≡ replicate (length w) 0) (eb : b₀ ≡ replicate (length b) 0) (em : m₀ ≡ replicate (length m) 0) (eg : g₀ ≡ replicate (length g) 0)

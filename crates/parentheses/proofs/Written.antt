@@ -5,10 +5,9 @@ use mathlib.Core.Option.{Option, none, some}
 use mathlib.Core.List.{List, [], _∷_, _++_, append-nil}
 use mathlib.Core.Logic.{_⊎_, inl, inr}
 use Prim.Native.Nat.{ℕ, zero, suc, _+_, _-_, _*_, _/_, _≤_, _<_}
-use native.Mathlib.Nat.{add-zero, add-suc, suc-add}
 use native.Mathlib.Omega.{arith}
 use lib.Dec.{leb}
-use lib.ListN.{length, set, take, drop, replicate, length-append}
+use lib.ListN.{length, take, drop, replicate, length-append}
 use lib.Seq.{sets, sets-eq, length-sets, paste, ext-getD, getD-take, length-take-le}
 use borrow.Author.Tests.{le-leb, lt-leb}
 use denote.Enum.Declared.{tagOf}
@@ -23,6 +22,7 @@ use Rattle.meaning.specs.Refusals.{fullBlock, fullAt, fullFrom}
 use Rattle.meaning.specs.Direct.{Entries, entriesOf, dictPut}
 use Rattle.meaning.proofs.Pack.{length-pack, pack-at}
 use Rattle.meaning.proofs.Words.{length-words}
+use Rattle.meaning.proofs.Runs.{sets-more}
 use Rattle.sparse_one_nnd.specs.Said.{entriesIn, dictAt}
 use Rattle.sparse_one_nnd.specs.declared.SparseOneNnd.{SparseOneNnd}
 use Rattle.pioneers.specs.Scratch.{textOf}
@@ -37,11 +37,6 @@ use Rattle.parentheses.proofs.plans.Family as family-type
 use Rattle.parentheses.proofs.Holds.{drop-holding, standing-next}
 use Rattle.parentheses.proofs.Counting.{single, famous, tower-short, tower-long, even-middle, even-large}
 use Rattle.parentheses.proofs.Planning.{long-next}
-
--- one run of stores after another
-pub sets-append : (l : List ℕ) (i : ℕ) (a b : List ℕ) → sets l i (a ++ b) ≡ sets (sets l i a) (i + length a) b
-sets-append l i [] b = ap (λ (k : ℕ). sets l k b) (sym (add-zero i))
-sets-append l i (x ∷ a) b = sets-append (set l i x) (suc i) a b ∙ ap (λ (k : ℕ). sets (sets (set l i x) (suc i) a) k b) (suc-add i (length a) ∙ sym (add-suc i (length a)))
 
 -- a copy is a run of stores
 pub paste-sets : (d : List ℕ) (b : ℕ) (s : List ℕ) (n : ℕ) (v : List ℕ) → take n s ≡ v → n ≡ length v → b + length v ≤ length d → paste d b s n ≡ sets d b v
@@ -277,7 +272,7 @@ module _ (scr : List ℕ) (lay : Layout) (left : ℕ) (at : Sizes) (w b m g : Li
 
             -- this level and the rest
             after : (x : List ℕ) (i j : ℕ) (u v : List ℕ) (x′ x″ : List ℕ) → x′ ≡ sets x i u → j ≡ i + length u → x″ ≡ sets x′ j v → x″ ≡ sets x i (u ++ v)
-            after x i j u v x′ x″ a h c = c ∙ ap₂ (λ (y : List ℕ) (k : ℕ). sets y k v) a h ∙ sym (sets-append x i u v)
+            after x i j u v x′ x″ a h c = c ∙ ap (λ (y : List ℕ). sets y j v) a ∙ sets-more x i j u v h
 
             pub write-more : (w″ b″ m″ g″ end : List ℕ) → WrittenIs exit next (left - 1) past (heldAt w′ b′ m′ g′) (heldAt w″ b″ m″ g″) end
                 → WrittenIs scr lay left at (heldAt w b m g) (heldAt w″ b″ m″ g″) end

@@ -3,8 +3,7 @@ use mathlib.Core.Path.{_≡_, refl, sym, ap, ap₂, _∙_}
 use mathlib.Core.Bool.{Bool, true}
 use mathlib.Core.Option.{Option, none, some}
 use mathlib.Core.List.{List, [], _∷_, _++_}
-use Prim.Native.Nat.{ℕ, zero, suc, _+_, _-_, _*_, _≤_, _<_}
-use native.Mathlib.Nat.{not-suc-le-zero, le-of-suc-le-suc}
+use Prim.Native.Nat.{ℕ, _+_, _-_, _*_, _≤_, _<_}
 use native.Mathlib.Omega.{arith}
 use lib.Dec.{leb}
 use lib.ListN.{length, take, drop, replicate, length-replicate, length-drop}
@@ -15,22 +14,13 @@ use Rattle.meaning.specs.String.{string}
 use Rattle.meaning.specs.List.{offending, greatest}
 use Rattle.meaning.specs.Refusals.{check, levelRule, firstOf}
 use Rattle.meaning.proofs.If.{if-none, if-some}
+use Rattle.meaning.proofs.Runs.{take-zeros, drop-zeros}
 use Rattle.pioneers.specs.Placed.{ruleOf, said, placing, holding, listChecks, placeIn, Ready}
 use Rattle.pioneers.specs.declared.string.Placed.the-variants as placed
 use Rattle.pioneers.specs.declared.string.Rule.{Rule}
 use Rattle.pioneers.specs.declared.string.Rule.the-variants as rule
 use Rattle.pioneers.proofs.Parts.{part-is, part-new}
 use Rattle.pioneers.proofs.Ruled.{rule-of}
-
-pub take-zeros : (t k : ℕ) → t ≤ k → take t (replicate {A = ℕ} k 0) ≡ replicate t 0
-take-zeros zero k h = refl
-take-zeros (suc t) zero h = absurd (not-suc-le-zero h)
-take-zeros (suc t) (suc k) h = ap (λ (l : List ℕ). 0 ∷ l) (take-zeros t k (le-of-suc-le-suc h))
-
-pub drop-zeros : (t k : ℕ) → drop t (replicate {A = ℕ} k 0) ≡ replicate (k - t) 0
-drop-zeros zero k = let e : k ≡ k - 0 = omega arith in ap (λ (n : ℕ). replicate n 0) e
-drop-zeros (suc t) zero = let e : 0 ≡ 0 - suc t = omega arith in ap (λ (n : ℕ). replicate {A = ℕ} n 0) e
-drop-zeros (suc t) (suc k) = let e : k - t ≡ suc k - suc t = omega arith in drop-zeros t k ∙ ap (λ (n : ℕ). replicate n 0) e
 
 -- the rule's answer, and what it was made of
 kept-none : (o : Option ℕ) → rule.Kept ≡ ruleOf o → o ≡ none

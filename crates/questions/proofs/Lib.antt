@@ -3,3 +3,4 @@ mod Links
 mod Asking
 mod Summing
 pub mod Agree
+pub mod Built

@@ -31,7 +31,7 @@ fn opens_before(words: &[u64], n: usize) -> usize
 }
 
 // "no such bit, or a node whose id is not the number of opens before its place" is PLACE, "the place holds a close" is CLOSE.
-pub fn check(
+pub(crate) fn check(
     words: &[u64],
     bytes: &[u8],
     middles: &[u16],
@@ -61,7 +61,7 @@ pub fn check(
 }
 
 // The close that the question of a close finds.
-pub fn close_of(
+pub(crate) fn close_of(
     words: &[u64],
     bytes: &[u8],
     middles: &[u16],

@@ -17,7 +17,7 @@ ghost use Rattle.closes.specs.Steps.{stepOf};
 ghost use Rattle.questions.specs.Said.{saidEdge};
 
 // The place after i, if it is an open before the length.
-pub fn open_after(words: &[u64], bits: usize, i: usize) -> Step
+pub(crate) fn open_after(words: &[u64], bits: usize, i: usize) -> Step
     ensures { λ r. ⌜ stepOf r ≡ test (getD (bitsOf (now (words .entry)) bits) (i + 1) false) (some (i + 1)) ⌝ }
 {
     if bits <= i {
@@ -30,7 +30,7 @@ pub fn open_after(words: &[u64], bits: usize, i: usize) -> Step
 }
 
 // Label k, and zero where there is none.
-pub fn label_at(labels: &[u32], k: usize) -> u32
+pub(crate) fn label_at(labels: &[u32], k: usize) -> u32
     ensures { λ r. ⌜ r ≡ getD (now (labels .entry)) k 0 ⌝ }
 {
     if k < labels.len() {
@@ -40,7 +40,7 @@ pub fn label_at(labels: &[u32], k: usize) -> u32
 }
 
 // The edge to the node of id k + 1, of a record that counts so many nodes: "its label is label k".
-pub fn edge_to(labels: &[u32], nodes: usize, place: usize, k: usize) -> Linked
+pub(crate) fn edge_to(labels: &[u32], nodes: usize, place: usize, k: usize) -> Linked
     ensures { λ r. ⌜ saidEdge r ≡ labelled (record { nodes = nodes; counts = [] }) (lentAt [] [] [] [] (now (labels .entry))) (some (record { place = place; id = suc k })) ⌝ }
 {
     if nodes <= k {

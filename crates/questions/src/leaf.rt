@@ -20,7 +20,7 @@ fn leaf(x: bool, y: bool) -> usize
 }
 
 // The leaves strictly between p and c.
-pub fn leaves_between(words: &[u64], bits: usize, p: usize, c: usize) -> usize
+pub(crate) fn leaves_between(words: &[u64], bits: usize, p: usize, c: usize) -> usize
     requires { ⌜ (p ≤ c) × (c ≤ bits) ⌝ }
     ensures { λ r. ⌜ r ≡ leafCount (bitsOf (now (words .entry)) bits) p c ⌝ }
 {

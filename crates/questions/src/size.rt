@@ -39,7 +39,7 @@ fn with_level(size: Number, c: Counts, level: usize) -> Number
 }
 
 // The size of all that the record counts.
-pub fn size_of(c: Counts) -> Number
+pub(crate) fn size_of(c: Counts) -> Number
     ensures { λ r. ⌜ saidNumber r ≡ sized (sizeIn (treeIn c)) ⌝ }
 {
     let a0 = with_level(Number::Is(8), c, 0);

@@ -20,7 +20,7 @@ use Rattle.bit_string.specs.declared.Cursor.{Cursor}
 use Rattle.bit_string.specs.declared.Step.{Step}
 use Rattle.bit_string.specs.declared.Step.the-variants as step
 use Rattle.sparse_one_nnd.specs.Offsets.{metOne, offsetPut, OffsetFits, OffsetsFit}
-use Rattle.sparse_one_nnd.proofs.Stores.{sets-more}
+use Rattle.meaning.proofs.Runs.{sets-more}
 
 -- an offset, of a step that met a one
 module _ (B : List ℕ) (at : ℕ) (s : Step) (j : ℕ) (d : Cursor) (e : s ≡ step.One j d) where

@@ -13,6 +13,7 @@ use borrow.Author.Tests.{eq-eqb, ne-eqb}
 use Rattle.meaning.specs.Bits.{opens, places, bitsOf}
 use Rattle.meaning.specs.Dictionary.{block, bytesOf, bytePos, onesTo, pairUp, largePos, largeRank, middlePos, middleRank, dictWith}
 use Rattle.meaning.proofs.If.{if-true, if-false}
+use Rattle.meaning.proofs.Runs.{sets-more}
 use Rattle.meaning.proofs.Rank.{length-places, bytes-add, pos-le, ones-le, length-pairUp}
 use Rattle.meaning.proofs.Stored.{length-bits}
 use Rattle.sparse_one_nnd.specs.declared.SparseOneNnd.{SparseOneNnd}
@@ -20,16 +21,6 @@ use Rattle.sparse_one_nnd.specs.declared.second_pass.Writing.{Writing}
 use Rattle.sparse_one_nnd.specs.Writing.{blockAt, Writable, largeState, largeArea, middleArea, passed, Near, BlockFits}
 use Rattle.sparse_one_nnd.specs.Offsets.{OffsetsFit}
 use Rattle.sparse_one_nnd.proofs.Blocks.{opens-le, block-words, next-ones}
-
--- runs of stores
-sets-append : (l : List ℕ) (i : ℕ) (vs ws : List ℕ) → sets (sets l i vs) (i + length vs) ws ≡ sets l i (vs ++ ws)
-sets-append l i [] ws = ap (λ (k : ℕ). sets l k ws) (add-zero i)
-sets-append l i (v ∷ vs) ws =
-    let u : i + suc (length vs) ≡ suc i + length vs = omega arith in
-    ap (λ (k : ℕ). sets (sets (set l i v) (suc i) vs) k ws) u ∙ sets-append (set l i v) (suc i) vs ws
-
-pub sets-more : (l : List ℕ) (i k : ℕ) (vs ws : List ℕ) → k ≡ i + length vs → sets (sets l i vs) k ws ≡ sets l i (vs ++ ws)
-sets-more l i k vs ws e = ap (λ (j : ℕ). sets (sets l i vs) j ws) e ∙ sets-append l i vs ws
 
 -- a block: its count and then its offsets, from its own words
 module _ (ws : List ℕ) (n b k : ℕ) (e : k ≡ min 256 (n - 256 * b)) (own : List ℕ) (p : own ≡ drop (4 * b) ws) where

@@ -15,38 +15,38 @@ pub enum Start {
 // What is past it overflows.
 pub const TOP: usize = 18446744073709551615;
 
-pub fn wide8(x: u8) -> usize
+pub(crate) fn wide8(x: u8) -> usize
     ensures { λ r. ⌜ r ≡ x ⌝ }
 {
     x as usize
 }
 
-pub fn wide16(x: u16) -> usize
+pub(crate) fn wide16(x: u16) -> usize
     ensures { λ r. ⌜ r ≡ x ⌝ }
 {
     x as usize
 }
 
-pub fn wide32(x: u32) -> usize
+pub(crate) fn wide32(x: u32) -> usize
     ensures { λ r. ⌜ r ≡ x ⌝ }
 {
     x as usize
 }
 
-pub fn wide64(x: u64) -> usize
+pub(crate) fn wide64(x: u64) -> usize
     ensures { λ r. ⌜ r ≡ x ⌝ }
 {
     x as usize
 }
 
-pub fn one_less(x: usize) -> usize
+pub(crate) fn one_less(x: usize) -> usize
     ensures { λ r. ⌜ r ≡ pred x ⌝ }
 {
     if x == 0 { 0 } else { x - 1 }
 }
 
 // Whether a part of these lengths is a dictionary without entries.
-pub fn no_entries(bytes: usize, middles: usize, larges: usize) -> bool
+pub(crate) fn no_entries(bytes: usize, middles: usize, larges: usize) -> bool
     ensures { λ r. ⌜ r ≡ eqb (bytes + middles + larges) 0 ⌝ }
 {
     if bytes == 0 {
@@ -58,7 +58,7 @@ pub fn no_entries(bytes: usize, middles: usize, larges: usize) -> bool
 }
 
 // The entry that is wanted, or the last there is.
-pub fn held(wanted: usize, len: usize) -> usize
+pub(crate) fn held(wanted: usize, len: usize) -> usize
     ensures { λ r. ⌜ r ≡ min wanted (len / 2 - 1) ⌝ }
 {
     let n = len / 2;
@@ -69,7 +69,7 @@ pub fn held(wanted: usize, len: usize) -> usize
 }
 
 // The start that large entry g and middle entry m give.
-pub fn start_of(bytes: &[u8], middles: &[u16], larges: &[u64], g: usize, m: usize) -> Start
+pub(crate) fn start_of(bytes: &[u8], middles: &[u16], larges: &[u64], g: usize, m: usize) -> Start
     ensures { λ r. ⌜ startIn (now (bytes .entry)) r ≡ limitStart (startAt (dictAt (now (bytes .entry)) (now (middles .entry)) (now (larges .entry))) g m) ⌝ }
 {
     if larges.len() / 2 <= g {

@@ -22,7 +22,7 @@ pub enum Pass {
     Fits(usize, usize),
 }
 
-pub fn lesser(a: usize, b: usize) -> usize
+pub(crate) fn lesser(a: usize, b: usize) -> usize
     ensures { λ r. ⌜ r ≡ min a b ⌝ }
 {
     if a < b { a } else { b }
@@ -71,7 +71,7 @@ fn count_ones(ws: &[u64], from: usize, k: usize) -> usize
 }
 
 // The ones of block b of n places.
-pub fn block_ones(ws: &[u64], n: usize, b: usize) -> usize
+pub(crate) fn block_ones(ws: &[u64], n: usize, b: usize) -> usize
     requires { ⌜ (n ≤ 2097152) × (256 * b ≤ n) ⌝ }
     ensures { λ r. ⌜ r ≡ opens (take 256 (drop (256 * b) (bitsOf (now (ws .entry)) n))) ⌝ }
 {
@@ -112,7 +112,7 @@ fn scan_blocks(ws: &[u64], n: usize) -> Pass
 }
 
 // The first pass.
-pub fn scan(ws: &[u64], n: usize) -> Pass
+pub(crate) fn scan(ws: &[u64], n: usize) -> Pass
     ensures { λ r. ⌜ PassIs (now (ws .entry)) n r ⌝ }
 {
     if words::enough(ws.len(), n) {
@@ -125,7 +125,7 @@ pub fn scan(ws: &[u64], n: usize) -> Pass
 }
 
 // The counts of a dictionary of so many blocks and ones.
-pub fn counts_of(blocks: usize, ones: usize) -> SparseOneNnd
+pub(crate) fn counts_of(blocks: usize, ones: usize) -> SparseOneNnd
     requires { ⌜ (blocks ≤ 2097152) × (ones ≤ 2097152) ⌝ }
     ensures { λ r. ⌜ entriesIn r ≡ countsOf blocks ones ⌝ }
 {

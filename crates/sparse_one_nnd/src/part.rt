@@ -7,7 +7,7 @@ ghost use lib.ListN.{take, drop};
 use crate::SparseOneNnd;
 
 // The first n bytes, or all there are.
-pub fn front8(a: &[u8], n: usize) -> &[u8]
+pub(crate) fn front8(a: &[u8], n: usize) -> &[u8]
     ensures { λ r. ⌜ now r ≡ take n (now (a .entry)) ⌝ }
 {
     if n <= a.len() {
@@ -17,7 +17,7 @@ pub fn front8(a: &[u8], n: usize) -> &[u8]
 }
 
 // The first n entries of two numbers.
-pub fn front16(a: &[u16], n: usize) -> &[u16]
+pub(crate) fn front16(a: &[u16], n: usize) -> &[u16]
     ensures { λ r. ⌜ now r ≡ take (2 * n) (now (a .entry)) ⌝ }
 {
     if n <= a.len() / 2 {
@@ -27,7 +27,7 @@ pub fn front16(a: &[u16], n: usize) -> &[u16]
     a
 }
 
-pub fn front64(a: &[u64], n: usize) -> &[u64]
+pub(crate) fn front64(a: &[u64], n: usize) -> &[u64]
     ensures { λ r. ⌜ now r ≡ take (2 * n) (now (a .entry)) ⌝ }
 {
     if n <= a.len() / 2 {
@@ -38,7 +38,7 @@ pub fn front64(a: &[u64], n: usize) -> &[u64]
 }
 
 // What is past the first n bytes.
-pub fn past8(a: &[u8], n: usize) -> &[u8]
+pub(crate) fn past8(a: &[u8], n: usize) -> &[u8]
     ensures { λ r. ⌜ now r ≡ drop n (now (a .entry)) ⌝ }
 {
     if n <= a.len() {
@@ -47,7 +47,7 @@ pub fn past8(a: &[u8], n: usize) -> &[u8]
     &a[..0]
 }
 
-pub fn past16(a: &[u16], n: usize) -> &[u16]
+pub(crate) fn past16(a: &[u16], n: usize) -> &[u16]
     ensures { λ r. ⌜ now r ≡ drop (2 * n) (now (a .entry)) ⌝ }
 {
     if n <= a.len() / 2 {
@@ -57,7 +57,7 @@ pub fn past16(a: &[u16], n: usize) -> &[u16]
     &a[..0]
 }
 
-pub fn past64(a: &[u64], n: usize) -> &[u64]
+pub(crate) fn past64(a: &[u64], n: usize) -> &[u64]
     ensures { λ r. ⌜ now r ≡ drop (2 * n) (now (a .entry)) ⌝ }
 {
     if n <= a.len() / 2 {
@@ -68,7 +68,7 @@ pub fn past64(a: &[u64], n: usize) -> &[u64]
 }
 
 // Whether the counts fit areas of these lengths.
-pub fn fit(c: SparseOneNnd, bytes: usize, middles: usize, larges: usize) -> bool
+pub(crate) fn fit(c: SparseOneNnd, bytes: usize, middles: usize, larges: usize) -> bool
     ensures { λ r. ⌜ r ≡ (leb (c .bytes) bytes && leb (2 * c .middles) middles && leb (2 * c .larges) larges) ⌝ }
 {
     if bytes < c.bytes {

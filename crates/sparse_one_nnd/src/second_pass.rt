@@ -134,7 +134,7 @@ fn put_block(ws: &[u64], n: usize, bytes: &mut [u8], o: usize, b: usize, s: Writ
 }
 
 // The blocks up to the last one's.
-pub fn put_blocks(
+pub(crate) fn put_blocks(
     ws: &[u64],
     n: usize,
     from: SparseOneNnd,

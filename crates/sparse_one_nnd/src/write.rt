@@ -26,7 +26,7 @@ fn room_pairs(len: usize, o: usize) -> usize
     len - 2 * o
 }
 
-pub fn write_fits(
+pub(crate) fn write_fits(
     ws: &[u64],
     n: usize,
     from: SparseOneNnd,

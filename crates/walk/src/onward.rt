@@ -84,7 +84,7 @@ fn back(
 }
 
 // The step from a path of n nodes.
-pub fn onward(
+pub(crate) fn onward(
     words: &[u64],
     bytes: &[u8],
     middles: &[u16],

@@ -7,7 +7,7 @@ ghost use Rattle.questions.specs.Said.{nodeOf};
 ghost use Rattle.walk.specs.Kept.{nodeIn, putIn};
 
 // The node at a depth.
-pub fn node_at(scratch: &[u64], d: usize) -> Node
+pub(crate) fn node_at(scratch: &[u64], d: usize) -> Node
     requires { ⌜ 2 * d + 1 < length (now scratch) ⌝ }
     ensures { λ r. ⌜ nodeOf r ≡ nodeIn (now (scratch .entry)) d ⌝ }
 {
@@ -18,7 +18,7 @@ pub fn node_at(scratch: &[u64], d: usize) -> Node
 }
 
 // A node kept at a depth.
-pub fn put_node(scratch: &mut [u64], d: usize, node: Node)
+pub(crate) fn put_node(scratch: &mut [u64], d: usize, node: Node)
     requires { ⌜ 2 * d + 1 < length (now scratch) ⌝ }
     ensures { λ _. ⌜ now (scratch .exit) ≡ putIn (now (scratch .entry)) d (nodeOf node) ⌝ }
 {
