@@ -1,19 +1,14 @@
 // Questions that change nothing: one for each argument of a line, or one for each open of the string.
-use crate::dict::dict_asked;
-use crate::op::Op;
-use crate::string::scan_asked;
-use crate::string::string_asked;
 use crate::tree::AtNode;
 use crate::tree::AtPlace;
 use crate::tree::at_node;
 use crate::tree::at_place;
-use crate::word::asked8;
-use crate::word::asked64;
 use asking::Answer;
 use asking::Fault;
 use asking::is_bad;
 use asking::items::Item;
 use asking::items::Items;
+use asking::items::MOST;
 use asking::items::list_at;
 use asking::items::next_item;
 use asking::put::put_end;
@@ -21,6 +16,12 @@ use asking::put::put_entry;
 use closes::Got;
 use questions::Node;
 use record::Counts;
+use replies::dict::dict_asked;
+use replies::op::Op;
+use replies::string::scan_asked;
+use replies::string::string_asked;
+use replies::word::asked8;
+use replies::word::asked64;
 
 pub enum Question {
     Place(AtPlace),
@@ -38,9 +39,6 @@ struct Turn {
     at: usize,
     more: bool,
 }
-
-// A line has at most so many arguments.
-pub const MOST: usize = 4194304;
 
 fn asked(
     words: &[u64],

@@ -2,43 +2,25 @@
 use crate::ask::Question;
 use crate::ask::each;
 use crate::ask::every;
-use crate::dict::dict_size;
-use crate::op::Op;
-use crate::op::op_of;
-use crate::string::counted;
-use crate::string::ones_line;
 use crate::tree::AtNode;
 use crate::tree::AtPlace;
 use crate::tree::number;
 use crate::tree::truth;
-use crate::word::pop_count;
 use asking::Answer;
 use asking::Fault;
 use asking::fill::narrow8;
 use asking::is_bad;
 use asking::put::put_answer;
+use asking::read::alone;
 use asking::read::behind;
+use asking::read::both;
 use asking::read::is_word;
 use record::Counts;
-
-// Whether this word is all the line.
-fn alone(line: &[u8], word: &[u8]) -> bool {
-    is_word(line, 0, word) && behind(line, 0) == line.len()
-}
-
-// Whether these two words are all the line.
-pub fn both(line: &[u8], word: &[u8], next: &[u8]) -> bool {
-    let at = behind(line, 0);
-    is_word(line, 0, word) && is_word(line, at, next) && behind(line, at) == line.len()
-}
-
-// The edit of a bit string, if the line has one.
-pub fn edit_of(line: &[u8]) -> Op {
-    if is_word(line, 0, b"string") {
-        return op_of(line, behind(line, 0));
-    }
-    Op::Other
-}
+use replies::dict::dict_size;
+use replies::op::op_of;
+use replies::string::ones_line;
+use replies::string::string_size;
+use replies::word::pop_count;
 
 // What a line asks: a question for each argument of the list that starts at a place, one for each open of the string, or an answer.
 enum Asked {
@@ -72,7 +54,7 @@ fn whole(
         return dict_size(c);
     }
     if both(line, b"string", b"byte_size") {
-        return counted(bit_string::byte_size(words, bits));
+        return string_size(words, bits);
     }
     Answer::Bad(Fault::Words)
 }

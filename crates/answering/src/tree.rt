@@ -7,9 +7,10 @@ use questions::Labelled;
 use questions::Linked;
 use questions::Node;
 use questions::Number;
-use questions::Refusal;
 use questions::Truth;
 use record::Counts;
+use replies::bit;
+use replies::refused;
 
 pub enum AtNode {
     FirstChild,
@@ -22,14 +23,6 @@ pub enum AtNode {
 pub enum AtPlace {
     Close,
     Bit,
-}
-
-pub fn refused(r: Refusal) -> Answer {
-    match r {
-        Refusal::Place(p) => Answer::Refused(7, p),
-        Refusal::Close(p) => Answer::Refused(8, p),
-        Refusal::Broken => Answer::Refused(9, 0),
-    }
 }
 
 fn linked(r: Linked) -> Answer {
@@ -53,10 +46,6 @@ pub fn number(r: Number) -> Answer {
         Number::Is(n) => Answer::Number(n),
         Number::Refused(f) => refused(f),
     }
-}
-
-pub fn bit(b: bool) -> Answer {
-    Answer::Number(if b { 1 } else { 0 })
 }
 
 pub fn truth(r: Truth) -> Answer {

@@ -19,7 +19,7 @@ pub fn done(f: Filled) -> Answer {
 }
 
 // A list that goes on where there is no element left.
-fn at_end(line: &[u8], s: Items, i: usize) -> Filled {
+pub fn at_end(line: &[u8], s: Items, i: usize) -> Filled {
     match next_item(line, s) {
         Item::End => Filled::Upto(i),
         Item::Is(_, _) => Filled::Bad(Fault::Large),
@@ -28,7 +28,7 @@ fn at_end(line: &[u8], s: Items, i: usize) -> Filled {
 }
 
 // The next number of a list of elements up to `most`.
-fn element(line: &[u8], s: Items, most: usize) -> Item {
+pub fn element(line: &[u8], s: Items, most: usize) -> Item {
     let item = next_item(line, s);
     let Item::Is(v, rest) = item else {
         return item;
@@ -40,26 +40,11 @@ fn element(line: &[u8], s: Items, most: usize) -> Item {
 }
 
 // Why a list stops at an element.
-fn stopped(item: Item, i: usize) -> Filled {
+pub fn stopped(item: Item, i: usize) -> Filled {
     match item {
         Item::End => Filled::Upto(i),
         _ => Filled::Bad(Fault::Number),
     }
-}
-
-pub fn fill64(line: &[u8], list: Items, area: &mut [u64], from: usize) -> Filled {
-    let mut s = list;
-    let mut i = from;
-    while i < area.len() {
-        let item = next_item(line, s);
-        let Item::Is(v, rest) = item else {
-            return stopped(item, i);
-        };
-        area[i] = v as u64;
-        s = rest;
-        i += 1;
-    }
-    at_end(line, s, i)
 }
 
 pub fn narrow8(v: usize) -> u8 {
@@ -69,41 +54,11 @@ pub fn narrow8(v: usize) -> u8 {
     255
 }
 
-pub fn fill8(line: &[u8], list: Items, area: &mut [u8], from: usize) -> Filled {
-    let mut s = list;
-    let mut i = from;
-    while i < area.len() {
-        let item = element(line, s, 255);
-        let Item::Is(v, rest) = item else {
-            return stopped(item, i);
-        };
-        area[i] = narrow8(v);
-        s = rest;
-        i += 1;
-    }
-    at_end(line, s, i)
-}
-
-fn narrow16(v: usize) -> u16 {
+pub fn narrow16(v: usize) -> u16 {
     if v < 65536 {
         return v as u16;
     }
     65535
-}
-
-pub fn fill16(line: &[u8], list: Items, area: &mut [u16], from: usize) -> Filled {
-    let mut s = list;
-    let mut i = from;
-    while i < area.len() {
-        let item = element(line, s, 65535);
-        let Item::Is(v, rest) = item else {
-            return stopped(item, i);
-        };
-        area[i] = narrow16(v);
-        s = rest;
-        i += 1;
-    }
-    at_end(line, s, i)
 }
 
 pub fn narrow32(v: usize) -> u32 {
@@ -111,21 +66,6 @@ pub fn narrow32(v: usize) -> u32 {
         return v as u32;
     }
     4294967295
-}
-
-pub fn fill32(line: &[u8], list: Items, area: &mut [u32], from: usize) -> Filled {
-    let mut s = list;
-    let mut i = from;
-    while i < area.len() {
-        let item = element(line, s, 4294967295);
-        let Item::Is(v, rest) = item else {
-            return stopped(item, i);
-        };
-        area[i] = narrow32(v);
-        s = rest;
-        i += 1;
-    }
-    at_end(line, s, i)
 }
 
 // Exactly as many numbers as there are elements.

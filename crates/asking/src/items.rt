@@ -1,6 +1,9 @@
 // A list of numbers: the rest of a line, with entries `a`, `a:b` (each number from a to b, up or down) and `a:b:k` (each of these k times).
 use crate::read::part;
 
+// A line has at most so many arguments.
+pub const MOST: usize = 4194304;
+
 // Where the next entry starts; of the present one, the number told last, the last one, how often each is told again, and how often
 // the present one still is.
 pub struct Items {

@@ -36,6 +36,17 @@ pub fn behind(line: &[u8], at: usize) -> usize {
     i
 }
 
+// Whether this word is all the line.
+pub fn alone(line: &[u8], word: &[u8]) -> bool {
+    is_word(line, 0, word) && behind(line, 0) == line.len()
+}
+
+// Whether these two words are all the line.
+pub fn both(line: &[u8], word: &[u8], next: &[u8]) -> bool {
+    let at = behind(line, 0);
+    is_word(line, 0, word) && is_word(line, at, next) && behind(line, at) == line.len()
+}
+
 // The number that starts at a place and ends with a colon or as a word does.
 pub fn part(line: &[u8], at: usize) -> Field {
     let r = next_entry(line, at);
