@@ -47,9 +47,9 @@ module _ (scr : List ℕ) (at : ℕ) (s : Scan) where
       unfolding pairTurn
       pair-marked e exit f = rw (ne-eqb (p / 64) (i / 64) n, ← q, e, f)
 
-      pub pair-passed : r ≡ false → turned (scanOf (s .depth - 1) p i) scr ≡ pairTurn scr at p i s
+      pub pair-passed : r ≡ false → (t : Scan) → t ≡ scanOf (s .depth - 1) p i → turned t scr ≡ pairTurn scr at p i s
       unfolding pairTurn
-      pair-passed e = rw (ne-eqb (p / 64) (i / 64) n, ← q, e)
+      pair-passed e t f = rw (ne-eqb (p / 64) (i / 64) n, ← q, e, f)
 
 module _ (scr : List ℕ) (at i : ℕ) (s : Scan) (b r : Bool) (q : r ≡ b) (t : Turned) where
   pub turn-open : r ≡ true → t ≡ openTurn scr i s → t ≡ turnOf scr at b i s

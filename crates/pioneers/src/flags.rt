@@ -7,7 +7,7 @@ ghost use lib.ListN.{length, take, drop, replicate};
 ghost use Rattle.meaning.specs.Bits.{bitAt};
 ghost use Rattle.meaning.specs.Pioneers.{flags};
 ghost use Rattle.pioneers.specs.Scratch.{fitsIn, textOf, withFlags, marking, markIn, Bare};
-ghost use Rattle.pioneers.specs.Turn.{apartOf, marked, settled, turned, openTurn, pairTurn, turnOf, Turns, Near};
+ghost use Rattle.pioneers.specs.Turn.{scanOf, apartOf, marked, settled, turned, openTurn, pairTurn, turnOf, Turns, Near};
 use crate::root::one_root;
 use words::bit_at;
 use words::enough;
@@ -64,6 +64,17 @@ fn open_turn(scr: &mut [u64], i: usize, s: Scan) -> Scan
     }
 }
 
+// "the outermost is flagged": (p, i) waits, in the place of a pending pair that lies inside it.
+fn outer(depth: usize, p: usize, i: usize) -> Scan
+    ensures { λ r. ⌜ r ≡ scanOf depth p i ⌝ }
+{
+    Scan {
+        depth,
+        fore: p,
+        aft: i,
+    }
+}
+
 // A close at i, of the open p.
 fn pair_turn(scr: &mut [u64], at: usize, p: usize, i: usize, s: Scan) -> Scan
     requires { ⌜ (0 < s .depth) × Near at s ⌝ }
@@ -85,11 +96,7 @@ fn pair_turn(scr: &mut [u64], at: usize, p: usize, i: usize, s: Scan) -> Scan
             aft: i,
         };
     }
-    Scan {
-        depth: d,
-        fore: p,
-        aft: i,
-    }
+    outer(d, p, i)
 }
 
 // The place i, by its bit.

@@ -22,10 +22,13 @@ same-length c = search needs
 returns-2 : tie.Need-returns-2
 returns-2 c = search (pair-marked, needs)
 
+outer-requires : tie.Need-outer-requires
+outer-requires c κs = search needs
+
 returns-3 : tie.Need-returns-3
 returns-3 c = search (pair-passed, needs)
 
 pub pair-turn-spec : {M : Type 1} → statement M
 pair-turn-spec =
     tie.close
-    (tie.spec sub-d returns apart-requires mark-pair-requires same-length returns-2 returns-3)
+    (tie.spec sub-d returns apart-requires mark-pair-requires same-length returns-2 outer-requires returns-3)
