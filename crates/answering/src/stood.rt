@@ -4,6 +4,11 @@ use asking::front::front8;
 use asking::front::front16;
 use asking::front::front32;
 use asking::front::front64;
+use standing::block::MOST_BYTES;
+use standing::block::MOST_LABELS;
+use standing::block::MOST_LARGES;
+use standing::block::MOST_MIDDLES;
+use standing::block::MOST_WORDS;
 use standing::block::counts;
 use standing::block::length_of;
 use standing::moved::load8;
@@ -43,11 +48,11 @@ fn ask_fronts(
 
 // A line that changes nothing.
 pub fn ask_stood(line: &[u8], state: &[u64], out: &mut [u8], at: usize) -> usize {
-    let mut words = [0u64; 33280];
-    let mut bytes = [0u8; 196448];
-    let mut middles = [0u16; 4096];
-    let mut larges = [0u64; 1024];
-    let mut labels = [0u32; 32831];
+    let mut words = [0u64; MOST_WORDS];
+    let mut bytes = [0u8; MOST_BYTES];
+    let mut middles = [0u16; MOST_MIDDLES];
+    let mut larges = [0u64; MOST_LARGES];
+    let mut labels = [0u32; MOST_LABELS];
     load64(state, 0, &mut words);
     load8(state, 1, &mut bytes);
     load16(state, 2, &mut middles);

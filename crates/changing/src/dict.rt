@@ -5,6 +5,10 @@ use asking::front::front16;
 use asking::front::front64;
 use sparse_one_nnd::Built;
 use sparse_one_nnd::SparseOneNnd;
+use standing::block::MOST_BYTES;
+use standing::block::MOST_LARGES;
+use standing::block::MOST_MIDDLES;
+use standing::block::MOST_WORDS;
 use standing::block::length_of;
 use standing::block::set_value;
 use standing::block::value;
@@ -58,10 +62,10 @@ fn set_dict(state: &mut [u64], d: SparseOneNnd) {
 
 // `dict build`: the dictionary of the bit string's ones.
 pub fn dict_build(state: &mut [u64]) -> Answer {
-    let mut words = [0u64; 33280];
-    let mut bytes = [0u8; 196448];
-    let mut middles = [0u16; 4096];
-    let mut larges = [0u64; 1024];
+    let mut words = [0u64; MOST_WORDS];
+    let mut bytes = [0u8; MOST_BYTES];
+    let mut middles = [0u16; MOST_MIDDLES];
+    let mut larges = [0u64; MOST_LARGES];
     load64(state, 0, &mut words);
     let b = build_fronts(state, &words, &mut bytes, &mut middles, &mut larges);
     keep8(state, 1, &bytes);

@@ -16,6 +16,7 @@ use replies::op::Op;
 use replies::op::is_edit;
 use replies::op::op_of;
 use replies::string::refused;
+use standing::block::MOST_WORDS;
 use standing::block::length_of;
 use standing::block::set_value;
 use standing::block::value;
@@ -138,7 +139,7 @@ fn edit_front(
 
 // `string push`, `set0`, `set1` and `resize`.
 pub fn edit_line(line: &[u8], state: &mut [u64], out: &mut [u8], at: usize) -> usize {
-    let mut words = [0u64; 33280];
+    let mut words = [0u64; MOST_WORDS];
     load64(state, 0, &mut words);
     let op = op_of(line, behind(line, 0));
     let e = edit_front(line, state, out, at, &mut words, op);

@@ -12,7 +12,13 @@ use asking::read::number;
 use replies::refused;
 use standing::block::LABELS;
 use standing::block::LEVELS;
-use standing::block::LISTED;
+use standing::block::MOST_BYTES;
+use standing::block::MOST_LABELS;
+use standing::block::MOST_LARGES;
+use standing::block::MOST_LISTED;
+use standing::block::MOST_MIDDLES;
+use standing::block::MOST_SCRATCH;
+use standing::block::MOST_WORDS;
 use standing::block::counts;
 use standing::block::length_of;
 use standing::block::set_length;
@@ -85,14 +91,14 @@ fn walk_fronts(
 
 // The walk of the tree that stands, into the lists as long as they are.
 fn walk_stood(state: &mut [u64]) -> Walked {
-    let mut words = [0u64; 33280];
-    let mut bytes = [0u8; 196448];
-    let mut middles = [0u16; 4096];
-    let mut larges = [0u64; 1024];
-    let mut labels = [0u32; 32831];
-    let mut levels = [0u32; 32831];
-    let mut names = [0u32; 32831];
-    let mut scratch = [0u64; 65664];
+    let mut words = [0u64; MOST_WORDS];
+    let mut bytes = [0u8; MOST_BYTES];
+    let mut middles = [0u16; MOST_MIDDLES];
+    let mut larges = [0u64; MOST_LARGES];
+    let mut labels = [0u32; MOST_LABELS];
+    let mut levels = [0u32; MOST_LISTED];
+    let mut names = [0u32; MOST_LISTED];
+    let mut scratch = [0u64; MOST_SCRATCH];
     load64(state, 0, &mut words);
     load8(state, 1, &mut bytes);
     load16(state, 2, &mut middles);
@@ -125,7 +131,11 @@ enum Lists {
 fn lists_of(line: &[u8], nodes: usize) -> Lists {
     let from = behind(line, 0);
     if from == line.len() {
-        let n = if nodes < LISTED { nodes } else { LISTED };
+        let n = if nodes < MOST_LISTED {
+            nodes
+        } else {
+            MOST_LISTED
+        };
         return Lists::Lent(n, n);
     }
     let a = number(line, from);
@@ -133,7 +143,7 @@ fn lists_of(line: &[u8], nodes: usize) -> Lists {
     if !a.good || !b.good || b.next != line.len() {
         return Lists::Bad(Fault::Number);
     }
-    if LISTED < a.value || LISTED < b.value {
+    if MOST_LISTED < a.value || MOST_LISTED < b.value {
         return Lists::Bad(Fault::Large);
     }
     Lists::Lent(a.value, b.value)

@@ -3,8 +3,20 @@ use record::Counts;
 use std::num::wrapping_add_usize;
 use words::word_at;
 
-// So many numbers has each list.
-pub const LISTED: usize = 32831;
+// The most elements of each area, in their order, and of a list.
+pub const MOST_WORDS: usize = 33280;
+
+pub const MOST_BYTES: usize = 196448;
+
+pub const MOST_MIDDLES: usize = 4096;
+
+pub const MOST_LARGES: usize = 1024;
+
+pub const MOST_LABELS: usize = 32831;
+
+pub const MOST_SCRATCH: usize = 65664;
+
+pub const MOST_LISTED: usize = 32831;
 
 // The lists behind the numbers at the block's front, and the areas behind the lists.
 const LISTS: usize = 34;
@@ -66,7 +78,7 @@ pub fn fresh(state: &mut [u64], sizes: [usize; 6]) {
     words::zero64(state);
     set_areas(state, sizes);
     set_start(state, LEVELS, LISTS);
-    set_start(state, LABELS, wrapping_add_usize(LISTS, LISTED));
+    set_start(state, LABELS, wrapping_add_usize(LISTS, MOST_LISTED));
 }
 
 // The end of the last of areas of these lengths.

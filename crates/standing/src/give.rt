@@ -1,7 +1,13 @@
 // Lines that give what stands: areas, elements, the record, the lists.
 use crate::block::LABELS;
 use crate::block::LEVELS;
-use crate::block::LISTED;
+use crate::block::MOST_BYTES;
+use crate::block::MOST_LABELS;
+use crate::block::MOST_LARGES;
+use crate::block::MOST_LISTED;
+use crate::block::MOST_MIDDLES;
+use crate::block::MOST_SCRATCH;
+use crate::block::MOST_WORDS;
 use crate::block::end_of;
 use crate::block::fresh;
 use crate::block::length_of;
@@ -24,14 +30,14 @@ use asking::read::is_word;
 use asking::read::number;
 use std::num::wrapping_add_usize;
 
-// Whether no area is longer than it may be. An operation's own areas are so long.
+// Whether no area is longer than it may be.
 fn short(sizes: [usize; 6]) -> bool {
-    sizes[0] <= 33280
-        && sizes[1] <= 196448
-        && sizes[2] <= 4096
-        && sizes[3] <= 1024
-        && sizes[4] <= 32831
-        && sizes[5] <= 65664
+    sizes[0] <= MOST_WORDS
+        && sizes[1] <= MOST_BYTES
+        && sizes[2] <= MOST_MIDDLES
+        && sizes[3] <= MOST_LARGES
+        && sizes[4] <= MOST_LABELS
+        && sizes[5] <= MOST_SCRATCH
 }
 
 // `areas a b c d e f`
@@ -147,7 +153,7 @@ fn filled(f: Filled, start: usize) -> usize {
 // `levels v..` and `labels v..`
 fn list_line(line: &[u8], state: &mut [u64], k: usize) -> Answer {
     let start = start_of(state, k);
-    let upto = wrapping_add_usize(start, LISTED);
+    let upto = wrapping_add_usize(start, MOST_LISTED);
     let list = list_at(behind(line, 0));
     let f = fill(line, list, state, start, upto, 4294967295);
     set_length(state, k, filled(f, start));

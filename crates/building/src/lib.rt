@@ -1,4 +1,4 @@
-// Build and growth.
+// Build and growth for the program `answers`: the areas that stand are loaded, and kept after.
 use asking::Answer;
 use asking::Fault;
 use asking::fill::narrow32;
@@ -15,6 +15,13 @@ use balanced_parens::builder::build;
 use balanced_parens::growth::grow;
 use standing::block::LABELS;
 use standing::block::LEVELS;
+use standing::block::MOST_BYTES;
+use standing::block::MOST_LABELS;
+use standing::block::MOST_LARGES;
+use standing::block::MOST_LISTED;
+use standing::block::MOST_MIDDLES;
+use standing::block::MOST_SCRATCH;
+use standing::block::MOST_WORDS;
 use standing::block::counts;
 use standing::block::length_of;
 use standing::block::set_counts;
@@ -93,14 +100,14 @@ fn keep_areas(
 
 // `build`, of the two lists. Refused, the record's counts are zeros.
 pub fn build_stood(state: &mut [u64]) -> Answer {
-    let mut levels = [0u32; 32831];
-    let mut names = [0u32; 32831];
-    let mut words = [0u64; 33280];
-    let mut bytes = [0u8; 196448];
-    let mut middles = [0u16; 4096];
-    let mut larges = [0u64; 1024];
-    let mut labels = [0u32; 32831];
-    let mut scratch = [0u64; 65664];
+    let mut levels = [0u32; MOST_LISTED];
+    let mut names = [0u32; MOST_LISTED];
+    let mut words = [0u64; MOST_WORDS];
+    let mut bytes = [0u8; MOST_BYTES];
+    let mut middles = [0u16; MOST_MIDDLES];
+    let mut larges = [0u64; MOST_LARGES];
+    let mut labels = [0u32; MOST_LABELS];
+    let mut scratch = [0u64; MOST_SCRATCH];
     load32(state, LEVELS, &mut levels);
     load32(state, LABELS, &mut names);
     let b = build_fronts(
@@ -152,12 +159,12 @@ fn grow_fronts(
 
 // Growth of the tree that stands.
 fn grow_stood(state: &mut [u64], level: u32, label: u32) -> Built {
-    let mut words = [0u64; 33280];
-    let mut bytes = [0u8; 196448];
-    let mut middles = [0u16; 4096];
-    let mut larges = [0u64; 1024];
-    let mut labels = [0u32; 32831];
-    let mut scratch = [0u64; 65664];
+    let mut words = [0u64; MOST_WORDS];
+    let mut bytes = [0u8; MOST_BYTES];
+    let mut middles = [0u16; MOST_MIDDLES];
+    let mut larges = [0u64; MOST_LARGES];
+    let mut labels = [0u32; MOST_LABELS];
+    let mut scratch = [0u64; MOST_SCRATCH];
     load64(state, 0, &mut words);
     load8(state, 1, &mut bytes);
     load16(state, 2, &mut middles);
