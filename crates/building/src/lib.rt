@@ -98,6 +98,23 @@ fn keep_areas(
     keep64(state, 5, scratch);
 }
 
+fn load_areas(
+    state: &[u64],
+    words: &mut [u64],
+    bytes: &mut [u8],
+    middles: &mut [u16],
+    larges: &mut [u64],
+    labels: &mut [u32],
+    scratch: &mut [u64],
+) {
+    load64(state, 0, words);
+    load8(state, 1, bytes);
+    load16(state, 2, middles);
+    load64(state, 3, larges);
+    load32(state, 4, labels);
+    load64(state, 5, scratch);
+}
+
 // `build`, of the two lists. Refused, the record's counts are zeros.
 pub fn build_stood(state: &mut [u64]) -> Answer {
     let mut levels = [0u32; MOST_LISTED];
@@ -110,6 +127,15 @@ pub fn build_stood(state: &mut [u64]) -> Answer {
     let mut scratch = [0u64; MOST_SCRATCH];
     load32(state, LEVELS, &mut levels);
     load32(state, LABELS, &mut names);
+    load_areas(
+        state,
+        &mut words,
+        &mut bytes,
+        &mut middles,
+        &mut larges,
+        &mut labels,
+        &mut scratch,
+    );
     let b = build_fronts(
         state,
         &levels,
@@ -165,12 +191,15 @@ fn grow_stood(state: &mut [u64], level: u32, label: u32) -> Built {
     let mut larges = [0u64; MOST_LARGES];
     let mut labels = [0u32; MOST_LABELS];
     let mut scratch = [0u64; MOST_SCRATCH];
-    load64(state, 0, &mut words);
-    load8(state, 1, &mut bytes);
-    load16(state, 2, &mut middles);
-    load64(state, 3, &mut larges);
-    load32(state, 4, &mut labels);
-    load64(state, 5, &mut scratch);
+    load_areas(
+        state,
+        &mut words,
+        &mut bytes,
+        &mut middles,
+        &mut larges,
+        &mut labels,
+        &mut scratch,
+    );
     let b = grow_fronts(
         state,
         &mut words,

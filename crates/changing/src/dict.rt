@@ -15,6 +15,8 @@ use standing::block::value;
 use standing::moved::keep8;
 use standing::moved::keep16;
 use standing::moved::keep64;
+use standing::moved::load8;
+use standing::moved::load16;
 use standing::moved::load64;
 
 fn verdict(b: Built) -> Answer {
@@ -67,6 +69,9 @@ pub fn dict_build(state: &mut [u64]) -> Answer {
     let mut middles = [0u16; MOST_MIDDLES];
     let mut larges = [0u64; MOST_LARGES];
     load64(state, 0, &mut words);
+    load8(state, 1, &mut bytes);
+    load16(state, 2, &mut middles);
+    load64(state, 3, &mut larges);
     let b = build_fronts(state, &words, &mut bytes, &mut middles, &mut larges);
     keep8(state, 1, &bytes);
     keep16(state, 2, &middles);

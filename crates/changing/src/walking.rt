@@ -104,6 +104,9 @@ fn walk_stood(state: &mut [u64]) -> Walked {
     load16(state, 2, &mut middles);
     load64(state, 3, &mut larges);
     load32(state, 4, &mut labels);
+    load64(state, 5, &mut scratch);
+    load32(state, LEVELS, &mut levels);
+    load32(state, LABELS, &mut names);
     let w = walk_fronts(
         state,
         &words,
