@@ -126,6 +126,16 @@ static void as_original_bits(const Case *c)
         SAME(c, "the original's bits", i, c->tree.record[1 + i], bits[i]);
 }
 
+/* Areas 0 to 3 and the bits of each string as the original has them, where it is here. */
+static void check_original_areas(const Case *c)
+{
+    if (c->original == NULL)
+        return;
+    for (int area = 0; area < 4; area++)
+        as_original(c, area);
+    as_original_bits(c);
+}
+
 /* The build: the string, the labels, the record, the size, and all areas as the original has them. */
 static void check_build(Case *c, double *since)
 {
@@ -142,12 +152,9 @@ static void check_build(Case *c, double *since)
     zeros_from(c, 5, 0);
     uint64_t size = plain_byte_size(&c->plain, &level, &block);
     told(c, "byte size", 0, tree_byte_size(&c->tree), 0, 1, size, 0, 0);
-    if (c->original != NULL) {
+    if (c->original != NULL)
         SAME(c, "the original's byte size", 0, size, original_byte_size(c->original));
-        for (int area = 0; area < 4; area++)
-            as_original(c, area);
-        as_original_bits(c);
-    }
+    check_original_areas(c);
     done("build, areas, byte size", size, since);
 }
 
@@ -292,7 +299,21 @@ static void run_list(const char *name, const uint32_t *levels, size_t n, Asked a
 
 /* Growth. */
 
-/* From `from` nodes to `to`, a step at a time; after each the areas are those of a build, and the answers of the new node are right. */
+/* After a step: the areas of the original's tree of the longer list, and the first child and next sibling of every node, or of 3,000 and the last. */
+static void check_step(Case *c)
+{
+    c->plain = plain_of(c->levels, c->n);
+    c->original = original_here() ? original_build(c->levels, c->labels, c->n) : NULL;
+    check_original_areas(c);
+    for (size_t id = 0; id <= c->n; id += c->n / 3000 + 1)
+        check_node(c, id);
+    check_node(c, c->n);
+    plain_free(&c->plain);
+    if (c->original != NULL)
+        original_free(c->original);
+}
+
+/* From `from` nodes to `to`, a step at a time; after each the areas are those of a build, and the answers those of the longer list. */
 static void check_growth(const char *name, const uint32_t *levels, size_t from, size_t to)
 {
     uint32_t *labels = list_labels(to);
@@ -305,6 +326,7 @@ static void check_growth(const char *name, const uint32_t *levels, size_t from, 
         SAME(&c, "build afresh", n + 1, tree_build(&afresh, levels, labels, n + 1), 0);
         same_areas(&c, &afresh);
         zeros_from(&c, 5, 0);
+        check_step(&c);
     }
     tree_return(&c.tree);
     tree_return(&afresh);
@@ -337,7 +359,7 @@ static void growth_from_nothing(Shape shape, size_t n, double *since)
 static void run_growth(int quick)
 {
     double since = seconds();
-    printf("growth, each step against a build afresh\n");
+    printf("growth, each step against a build afresh and the original\n");
     for (Shape s = 0; s < SHAPES; s++) {
         growth_from_nothing(s, quick ? 300 : 2300, &since);
         growth_about(s, 65536, quick ? 3 : 40, &since);
