@@ -11,7 +11,7 @@ use replies::op::Op;
 use replies::string::{scan_asked, string_asked};
 use replies::word::{asked8, asked64};
 
-#[derive(Drop)]
+#[derive(Clone, Copy)]
 pub enum Question {
     Place(AtPlace),
     Node(AtNode),
@@ -23,7 +23,7 @@ pub enum Question {
 }
 
 // The list behind an argument, where the next byte of the answers goes, and whether there is more to ask.
-#[derive(Drop)]
+#[derive(Clone, Copy)]
 struct Turn {
     items: Items,
     at: usize,
@@ -137,7 +137,7 @@ pub fn each(
 }
 
 // Where the next byte of the answers goes, the next node's id, and whether there is more to ask.
-#[derive(Drop)]
+#[derive(Clone, Copy)]
 struct Met {
     at: usize,
     id: usize,

@@ -12,7 +12,7 @@ use replies::string::{ones_line, string_size};
 use replies::word::pop_count;
 
 // What a line asks: a question for each argument of the list that starts at a place, one for each open of the string, or an answer.
-#[derive(Drop)]
+#[derive(Clone, Copy)]
 enum Asked {
     Each(Question, usize),
     Every(AtNode),

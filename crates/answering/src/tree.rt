@@ -5,7 +5,7 @@ use questions::{Labelled, Linked, Node, Number, Truth};
 use record::Counts;
 use replies::{bit, refused};
 
-#[derive(Drop)]
+#[derive(Clone, Copy)]
 pub enum AtNode {
     FirstChild,
     NextSibling,
@@ -14,7 +14,7 @@ pub enum AtNode {
     Close,
 }
 
-#[derive(Drop)]
+#[derive(Clone, Copy)]
 pub enum AtPlace {
     Close,
     Bit,

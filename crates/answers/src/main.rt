@@ -1,4 +1,6 @@
 // The program `answers`: cases from standard input, an answer for each to standard output. docs/CASES.md has the form of the cases.
+#![tactic(auto)]
+
 mod line;
 mod pages;
 

@@ -78,7 +78,7 @@ fn lines(text: &[u8], from: usize, to: usize, state: &mut [u64], out: &mut [u8])
 }
 
 // What is kept of the last line, whether the rest of a line is passed over, and whether there is more to read.
-#[derive(Drop)]
+#[derive(Clone, Copy)]
 struct Page {
     kept: usize,
     pass: bool,

@@ -3,7 +3,7 @@ use crate::items::{Item, Items, next_item};
 use crate::{Answer, Fault};
 
 // The element behind the last one filled, or why not all are.
-#[derive(Drop)]
+#[derive(Clone, Copy)]
 pub enum Filled {
     Upto(usize),
     Bad(Fault),

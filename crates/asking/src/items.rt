@@ -6,7 +6,7 @@ pub const MOST: usize = 4194304;
 
 // Where the next entry starts; of the present one, the number told last, the last one, how often each is told again, and how often
 // the present one still is.
-#[derive(Drop)]
+#[derive(Clone, Copy)]
 pub struct Items {
     pub at: usize,
     pub from: usize,
@@ -15,7 +15,7 @@ pub struct Items {
     pub left: usize,
 }
 
-#[derive(Drop)]
+#[derive(Clone, Copy)]
 pub enum Item {
     Is(usize, Items),
     End,

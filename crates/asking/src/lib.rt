@@ -1,5 +1,7 @@
 // The text side of the program `answers`: words, numbers and lists read from a line, and answers written into lent bytes, which go to
 // standard output where they are full.
+#![tactic(auto)]
+
 pub mod fill;
 pub mod front;
 pub mod items;
@@ -7,7 +9,7 @@ pub mod put;
 pub mod read;
 
 // Why a line is no case.
-#[derive(Drop)]
+#[derive(Clone, Copy)]
 pub enum Fault {
     Words,
     Number,
@@ -17,7 +19,7 @@ pub enum Fault {
 }
 
 // What a question is answered by. A refusal has its number and what it carries; FULL carries two values.
-#[derive(Drop)]
+#[derive(Clone, Copy)]
 pub enum Answer {
     Number(usize),
     Nothing,

@@ -2,7 +2,7 @@
 use recorded::{Entry, begins, byte_at, next_entry};
 
 // A number, the byte that ends it, and where the next field starts; that is the line's length if there is none.
-#[derive(Drop)]
+#[derive(Clone, Copy)]
 pub struct Field {
     pub value: usize,
     pub stop: u8,

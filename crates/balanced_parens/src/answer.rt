@@ -6,7 +6,7 @@ ghost use Rattle.balanced_parens.specs.Contract.{Retold};
 use parentheses::levels as levels;
 use record::Counts;
 
-#[derive(Drop)]
+#[derive(Clone, Copy)]
 pub enum Verdict {
     Made,
     Lengths,
@@ -19,7 +19,7 @@ pub enum Verdict {
 }
 
 // The record of counts, if the verdict is that it is made; else counts of nothing.
-#[derive(Drop)]
+#[derive(Clone, Copy)]
 pub struct Built {
     pub verdict: Verdict,
     pub counts: Counts,

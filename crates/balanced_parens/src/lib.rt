@@ -1,4 +1,6 @@
 // The tree in six lent areas: build and growth.
+#![tactic(auto)]
+
 pub mod answer;
 pub mod builder;
 pub mod growth;

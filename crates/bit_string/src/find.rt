@@ -11,7 +11,7 @@ use fixnum::{Fixnum64, Found};
 use ops::{Spot, is_at, upto};
 
 // A turn of select: the place in the word, or what is left to count.
-#[derive(Drop)]
+#[derive(Clone, Copy)]
 pub enum Turn {
     At(usize),
     Rest(usize),

@@ -1,4 +1,6 @@
 // A string of bits in lent words. "Bit i is bit i mod 64 of word i / 64, lowest first"; n is the length.
+#![tactic(auto)]
+
 ghost use Rattle.std.specs.Prelude.{◌≡◌, true, false};
 ghost use Rattle.meaning.specs.BitString.{string_get, string_rank, string_select, string_pred, string_succ, string_size};
 ghost use Rattle.meaning.specs.BitString.{edited, string_set, string_push, string_resize, one_from};
@@ -186,13 +188,13 @@ pub fn resize(words: &mut [u64], n: usize, m: usize) -> Done
 }
 
 // The place from which the ones are sought on, by value.
-#[derive(Drop)]
+#[derive(Clone, Copy)]
 pub struct Cursor {
     pub next: usize,
 }
 
 // A one and the cursor behind it.
-#[derive(Drop)]
+#[derive(Clone, Copy)]
 pub enum Step {
     One(usize, Cursor),
     End,

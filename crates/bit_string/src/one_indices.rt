@@ -7,7 +7,7 @@ ghost use Rattle.bit_string.specs.Indices.{goes_on, answer, moved};
 use crate::{Cursor, Step};
 
 // A step, and the place from which the next one goes on.
-#[derive(Drop)]
+#[derive(Clone, Copy)]
 pub struct Moved {
     pub step: Step,
     pub next: usize,
@@ -37,7 +37,7 @@ fn advance(words: &[u64], n: usize, next: usize) -> Moved
 }
 
 // The string's words and length, and the next place.
-#[derive(Drop)]
+#[derive(Clone, Copy)]
 pub struct OneIndices<'a> {
     pub words: &'a [u64],
     pub len: usize,

@@ -4,7 +4,7 @@ use ops::{Done, Refusal};
 use recorded::{Entry, next_entry};
 
 // The length, where the reading stands, and whether the text is a case so far.
-#[derive(Drop)]
+#[derive(Clone, Copy)]
 pub struct Loaded {
     pub n: usize,
     pub next: usize,
@@ -12,7 +12,7 @@ pub struct Loaded {
 }
 
 // What an edit left: the length, and the outcome in the record's terms.
-#[derive(Drop)]
+#[derive(Clone, Copy)]
 pub struct Made {
     pub n: usize,
     pub outcome: Entry,

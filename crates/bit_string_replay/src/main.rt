@@ -1,6 +1,8 @@
 // Replays the recorded answers of the original about bit strings and the plain scan, and compares each with what `bit_string` and
 // `ops::linear_fid` answer. Where 01 differs from the original the answer is 01's, and the record is held to what the original does there.
 // The input is testdata/bits.txt and testdata/ops.txt, whole.
+#![tactic(auto)]
+
 ghost use Rattle.std.specs.Prelude.{◌≤◌, length};
 
 mod asked;
@@ -15,7 +17,7 @@ use recorded::{
 };
 
 // The length after an edit, where the next edit stands, and the run.
-#[derive(Drop)]
+#[derive(Clone, Copy)]
 struct Edited {
     n: usize,
     next: usize,
@@ -78,7 +80,7 @@ fn edits(text: &[u8], at: usize, words: &mut [u64], n: usize, run: Run) -> Edite
 }
 
 // A string of n bits, asked by `bit_string` or by the plain scan, at the first k arguments of a list.
-#[derive(Drop)]
+#[derive(Clone, Copy)]
 struct Case {
     n: usize,
     plain: bool,
@@ -132,7 +134,7 @@ fn word_field(text: &[u8], words: &[u64], n: usize, r: Run) -> Run {
 }
 
 // A step of the cursor: the one it met, or that it met none.
-#[derive(Drop)]
+#[derive(Clone, Copy)]
 struct Met {
     place: u64,
     ok: bool,
@@ -319,7 +321,7 @@ fn shift(text: &mut [u8], n: usize, end: usize) -> usize {
     k
 }
 
-#[derive(Drop)]
+#[derive(Clone, Copy)]
 struct Page {
     kept: usize,
     more: bool,

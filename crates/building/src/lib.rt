@@ -1,4 +1,6 @@
 // Build and growth for the program `answers`: the areas that stand are loaded, and kept after.
+#![tactic(auto)]
+
 use asking::fill::narrow32;
 use asking::front::{front8, front16, front32, front64};
 use asking::read::{behind, number};

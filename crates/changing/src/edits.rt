@@ -35,7 +35,7 @@ fn length_after(d: Done, n: usize) -> usize {
 }
 
 // The list behind an argument, where the next byte of the answers goes, the length, and whether there is more.
-#[derive(Drop)]
+#[derive(Clone, Copy)]
 struct Turn {
     items: Items,
     at: usize,
@@ -106,7 +106,7 @@ fn edit_each(
 }
 
 // The edits of the words that stand: where the next byte of the answers goes, and the length.
-#[derive(Drop)]
+#[derive(Clone, Copy)]
 struct Edited {
     at: usize,
     n: usize,

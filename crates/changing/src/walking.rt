@@ -103,7 +103,7 @@ fn walk_stood(state: &mut [u64]) -> Walked {
 }
 
 // How many elements of each list are lent.
-#[derive(Drop)]
+#[derive(Clone, Copy)]
 enum Lists {
     Lent(usize, usize),
     Bad(Fault),

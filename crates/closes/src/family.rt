@@ -13,7 +13,7 @@ use record::Counts;
 use sparse_one_nnd::{Count, Found, SparseOneNnd};
 
 // Where a level's parts start: its words, and how many entries of each kind lie before those of its dictionary.
-#[derive(Drop)]
+#[derive(Clone, Copy)]
 pub struct At {
     pub words: usize,
     pub dict: SparseOneNnd,

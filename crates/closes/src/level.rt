@@ -6,14 +6,14 @@ ghost use Rattle.meaning.specs.Close.{in_word, excess, left_from, from_close, an
 ghost use Rattle.closes.specs.Steps.{step_of, counted, reached, or_else, Finds, NearIs};
 
 // A place or a count, or none.
-#[derive(Drop)]
+#[derive(Clone, Copy)]
 pub enum Step {
     Is(usize),
     Nothing,
 }
 
 // The close of an open in its own word; that it is not there; or BROKEN.
-#[derive(Drop)]
+#[derive(Clone, Copy)]
 pub enum Near {
     Is(usize),
     Far,

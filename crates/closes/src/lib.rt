@@ -1,4 +1,6 @@
 // String close and family close, which call each other, the pioneer level falling.
+#![tactic(auto)]
+
 ghost use Rattle.std.specs.Prelude.{◌≡◌, suc, drop};
 ghost use Rattle.meaning.specs.Areas.{own_dict, past};
 ghost use Rattle.meaning.specs.Close.{family_close, close_at};
@@ -92,7 +94,7 @@ fn family_close(
 }
 
 // What the question of a close answers.
-#[derive(Drop)]
+#[derive(Clone, Copy)]
 pub enum Closed {
     At(usize),
     Place(usize),
@@ -138,7 +140,7 @@ pub fn get_close(
 }
 
 // What the question of a bit answers.
-#[derive(Drop)]
+#[derive(Clone, Copy)]
 pub enum Got {
     Is(bool),
     Place(usize),

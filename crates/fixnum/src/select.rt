@@ -8,7 +8,7 @@ use super::count::{stages8, stages64};
 use super::{Fixnum8, Fixnum64, Found};
 
 // The one sought is the left-th of the `width` bits from `offset` on.
-#[derive(Drop)]
+#[derive(Clone, Copy)]
 struct Part {
     left: u64,
     offset: u64,

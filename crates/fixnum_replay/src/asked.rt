@@ -4,7 +4,7 @@ ghost use Rattle.std.specs.Prelude.{◌≤◌};
 use fixnum::{Closed, Fixnum8, Fixnum64, Found, Got, Rank, Set8, Set64};
 use recorded::Entry;
 
-#[derive(Drop)]
+#[derive(Clone, Copy)]
 pub struct Word {
     pub wide: bool,
     pub x: u64,

@@ -1,6 +1,8 @@
 // Replays the recorded answers of the original about single words, and compares each with what fixnum answers. Where 01 differs from the
 // original the answer is 01's, and the record is held to what the original does there. The input is testdata/fixnum8.txt, whole, and every
 // fifth line of testdata/fixnum64.txt.
+#![tactic(auto)]
+
 mod asked;
 
 use asked::{Word, asked, length};

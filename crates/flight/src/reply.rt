@@ -13,7 +13,7 @@ use questions::{Labelled, Linked, Node, Number, Refusal, Truth};
 use walk::Walked;
 
 // The number returned; then the four of `out`: 1 if a value is found, and the values or what a refusal carries.
-#[derive(Drop)]
+#[derive(Clone, Copy)]
 pub struct Reply {
     pub returned: usize,
     pub out: [usize; 4],

@@ -1,4 +1,6 @@
 // The program `listwalk`: a list from standard input, its tree's listing to standard output.
+#![tactic(auto)]
+
 ghost use Rattle.meaning.specs.Listing.{listwalk_of};
 ghost use Rattle.listing.specs.Said.{Puts};
 ghost use Rattle.listwalk.specs.Answered.{Answered};
@@ -36,7 +38,7 @@ fn answer(text: &[u8], out: &mut [u8]) -> usize
     n
 }
 
-// 512 lines have at most 11,264 bytes: what stands after the buffer's end changes nothing, and every answer fits (`whole-input` of proofs/Answered.antt).
+// 512 lines have at most 11,264 bytes: what stands after the buffer's end changes nothing, and every answer fits (`whole_input` of proofs/Answered.antt).
 fn main() {
     let mut text = io::large_buffer();
     let mut out = io::large_buffer();

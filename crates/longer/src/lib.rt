@@ -1,4 +1,6 @@
 // Growth's string: the list longer by one node, made in scratch from the bit string alone.
+#![tactic(auto)]
+
 ghost use Rattle.std.specs.Prelude.{◌≡◌, true, ◌-◌, ◌≤◌, length, set};
 ghost use Rattle.std.proofs.Math.Seq.{paste};
 ghost use Rattle.meaning.specs.Bits.{bits_of, pack};
@@ -10,7 +12,7 @@ use pioneers::compact::trim;
 use pioneers::root::one_root;
 use words::{bit_at, store, word_count, zero64};
 
-#[derive(Drop)]
+#[derive(Clone, Copy)]
 pub enum Longer {
     Made,
     Broken,

@@ -1,7 +1,9 @@
 // The demands, joined to the contracts of all the operations. The functions here only call the questions with the record that a build or growth answered: their check
 // holds the contracts of these against the definitions of specs/Contracts.antt.
+#![tactic(auto)]
+
 ghost use Rattle.meaning.specs.Questions.{lent_at};
-ghost use Rattle.mission.specs.Contracts.{GetClose, FirstChild, NextSibling, Label, LeafCount, Nodes, ByteSize, Walks};
+ghost use Rattle.mission.specs.Allowed.{GetClose, FirstChild, NextSibling, Label, LeafCount, Nodes, ByteSize, Walks};
 
 use balanced_parens::answer::Built;
 use closes::Closed;

@@ -1,31 +1,33 @@
 // The answers of a bit string, and what its questions share: the tests of a place and the naive succ's own test.
+#![tactic(auto)]
+
 ghost use Rattle.std.specs.Prelude.{◌≡◌, not, ◌&&◌, ◌+◌, min, leb};
 ghost use Rattle.ops.specs.Said.{said_spot, is_at};
 
 pub mod linear_fid;
 
 // ROOM carries the area, PLACE the place; BROKEN: the length is past the words.
-#[derive(Drop)]
+#[derive(Clone, Copy)]
 pub enum Refusal {
     Room(usize),
     Place(usize),
     Broken,
 }
 
-#[derive(Drop)]
+#[derive(Clone, Copy)]
 pub enum Got {
     Is(bool),
     Nothing,
     Refused(Refusal),
 }
 
-#[derive(Drop)]
+#[derive(Clone, Copy)]
 pub enum Count {
     Is(usize),
     Refused(Refusal),
 }
 
-#[derive(Drop)]
+#[derive(Clone, Copy)]
 pub enum Spot {
     At(usize),
     Nothing,
@@ -33,7 +35,7 @@ pub enum Spot {
 }
 
 // A change is done, and the string has this length.
-#[derive(Drop)]
+#[derive(Clone, Copy)]
 pub enum Done {
     Length(usize),
     Refused(Refusal),

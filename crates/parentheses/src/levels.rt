@@ -19,7 +19,7 @@ use record::Counts;
 use sparse_one_nnd::SparseOneNnd;
 use words::{word_count, zero8, zero16, zero64};
 
-#[derive(Drop)]
+#[derive(Clone, Copy)]
 pub enum Verdict {
     Made,
     Full(usize, usize),
@@ -29,7 +29,7 @@ pub enum Verdict {
 }
 
 // The record of counts, if the verdict is that it is made; else counts of nothing.
-#[derive(Drop)]
+#[derive(Clone, Copy)]
 pub struct Raised {
     pub verdict: Verdict,
     pub counts: Counts,

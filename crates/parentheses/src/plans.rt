@@ -12,14 +12,14 @@ use sparse_one_nnd::{Planned, SparseOneNnd};
 use words::{word_count, zero64};
 
 // Words of area 0, and entries of areas 1 to 3: what some levels take, or what lies before a level.
-#[derive(Drop)]
+#[derive(Clone, Copy)]
 pub(crate) struct Sizes {
     pub(crate) words: usize,
     pub(crate) dict: SparseOneNnd,
 }
 
 // What the levels of a string take, or why there are none.
-#[derive(Drop)]
+#[derive(Clone, Copy)]
 pub(crate) struct Plan {
     pub(crate) verdict: Verdict,
     pub(crate) counts: Counts,
@@ -27,7 +27,7 @@ pub(crate) struct Plan {
 }
 
 // The family of a string: its dictionary's counts, and the bits of the pioneer string, which then stands in the string's place.
-#[derive(Drop)]
+#[derive(Clone, Copy)]
 pub(crate) enum Family {
     Made(SparseOneNnd, usize),
     Full(usize),

@@ -9,7 +9,7 @@ use crate::root::one_root;
 use words::{bit_at, enough, store, zero64};
 
 // Where the parts start, and the bits of the string.
-#[derive(Drop)]
+#[derive(Clone, Copy)]
 pub struct Layout {
     pub text: usize,
     pub flags: usize,
@@ -17,7 +17,7 @@ pub struct Layout {
 }
 
 // The stack's height, and the last far pair that closed: no pair closes at 0, which says that there is none.
-#[derive(Drop)]
+#[derive(Clone, Copy)]
 pub struct Scan {
     pub depth: usize,
     pub fore: usize,

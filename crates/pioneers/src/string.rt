@@ -8,13 +8,13 @@ ghost use Rattle.pioneers.specs.Node.{node_of, once_of, wrote_of, Allows};
 
 use words::{store, zero64};
 
-#[derive(Drop)]
+#[derive(Clone, Copy)]
 pub enum Rule {
     Kept,
     Broken(usize),
 }
 
-#[derive(Drop)]
+#[derive(Clone, Copy)]
 pub enum Placed {
     Made,
     Many(usize),
@@ -46,7 +46,7 @@ pub fn check_levels(levels: &[u32]) -> Rule
 }
 
 // The nodes taken, the bits so far, and the previous level: as the Rust counts it, the open nodes below the root.
-#[derive(Drop)]
+#[derive(Clone, Copy)]
 pub struct Builder {
     pub nodes: usize,
     pub bits: usize,
@@ -54,7 +54,7 @@ pub struct Builder {
 }
 
 // The builder after a turn, and whether the list had a node.
-#[derive(Drop)]
+#[derive(Clone, Copy)]
 pub struct Once {
     pub builder: Builder,
     pub more: bool,

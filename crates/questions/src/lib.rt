@@ -1,4 +1,6 @@
 // The tree's questions: root, first child, next sibling, label, leaf count, nodes, byte size.
+#![tactic(auto)]
+
 ghost use Rattle.std.specs.Prelude.{◌≡◌};
 ghost use Rattle.meaning.specs.Child as child;
 ghost use Rattle.meaning.specs.Questions.{lent_at, first_child, next_sibling, leaves_below, label_in, nodes_in, is_empty_in, bytes_held};
@@ -15,13 +17,13 @@ mod leaf;
 mod size;
 
 // A node is a place and an id.
-#[derive(Drop)]
+#[derive(Clone, Copy)]
 pub struct Node {
     pub place: usize,
     pub id: usize,
 }
 
-#[derive(Drop)]
+#[derive(Clone, Copy)]
 pub enum Refusal {
     Place(usize),
     Close(usize),
@@ -29,34 +31,34 @@ pub enum Refusal {
 }
 
 // What the checks of a node say.
-#[derive(Drop)]
+#[derive(Clone, Copy)]
 pub enum Check {
     Passed,
     Refused(Refusal),
 }
 
 // An edge is the new node and its label.
-#[derive(Drop)]
+#[derive(Clone, Copy)]
 pub enum Linked {
     Edge(Node, u32),
     Nothing,
     Refused(Refusal),
 }
 
-#[derive(Drop)]
+#[derive(Clone, Copy)]
 pub enum Labelled {
     Is(u32),
     Nothing,
     Refused(Refusal),
 }
 
-#[derive(Drop)]
+#[derive(Clone, Copy)]
 pub enum Number {
     Is(usize),
     Refused(Refusal),
 }
 
-#[derive(Drop)]
+#[derive(Clone, Copy)]
 pub enum Truth {
     Is(bool),
     Refused(Refusal),

@@ -1,7 +1,8 @@
 // The recorded answers of the original as text: entries ended by a tab, a space, a colon or a newline, and the digest of a long field.
+#![tactic(auto)]
 
 // A number, `-` where the original found nothing, `!` where it stopped, `.` where it made a change.
-#[derive(Drop)]
+#[derive(Clone, Copy)]
 pub enum Entry {
     Empty,
     Number(u64),
@@ -12,7 +13,7 @@ pub enum Entry {
 }
 
 // An entry, the byte that ends it (0 at the end of the text), and where the next one starts.
-#[derive(Drop)]
+#[derive(Clone, Copy)]
 pub struct Read {
     pub entry: Entry,
     pub stop: u8,
@@ -20,7 +21,7 @@ pub struct Read {
 }
 
 // Where the reading stands, how many answers were compared, and how many were different.
-#[derive(Drop)]
+#[derive(Clone, Copy)]
 pub struct Run {
     pub at: usize,
     pub answers: u64,
@@ -204,7 +205,7 @@ pub fn compare(text: &[u8], r: Run, want: Entry, stop: u8) -> Run {
 }
 
 // How many bytes a field has, and its digest: h starts as 1, and for each byte b becomes (h * 1000003 + b) mod 4294967291.
-#[derive(Drop)]
+#[derive(Clone, Copy)]
 pub struct Digest {
     pub bytes: u64,
     pub h: u64,

@@ -1,4 +1,6 @@
 // Questions of the program `answers` to a dictionary, a bit string and a word, and their answers as entries; the tree's refusals as entries.
+#![tactic(auto)]
+
 use asking::Answer;
 use questions::Refusal;
 

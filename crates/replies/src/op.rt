@@ -1,7 +1,7 @@
 // The questions and edits of a dictionary, a bit string and a word, by name.
 use asking::read::is_word;
 
-#[derive(Drop)]
+#[derive(Clone, Copy)]
 pub enum Op {
     Get,
     RankOne,

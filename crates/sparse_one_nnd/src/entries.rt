@@ -5,7 +5,7 @@ ghost use Rattle.sparse_one_nnd.specs.Said.{dict_at};
 ghost use Rattle.sparse_one_nnd.specs.Start.{start_in, limit_start};
 
 // Where a walk starts: a byte position and the ones before it.
-#[derive(Drop)]
+#[derive(Clone, Copy)]
 pub enum Start {
     From(usize, usize),
     Broken,

@@ -8,14 +8,14 @@ use crate::SparseOneNnd;
 use crate::entries::wide32;
 
 // A stretch of places: zeros, but for a one at the last if `one`.
-#[derive(Drop)]
+#[derive(Clone, Copy)]
 pub struct Stretch {
     pub places: usize,
     pub one: bool,
 }
 
 // What the first pass finds: a full block, or how many blocks and ones there are.
-#[derive(Drop)]
+#[derive(Clone, Copy)]
 pub enum Pass {
     Broken,
     Many(usize),

@@ -1,4 +1,6 @@
 // The sparse dictionary: the questions to it in areas 1 to 3, the plan, and the build.
+#![tactic(auto)]
+
 ghost use Rattle.std.specs.Prelude.{◌≡◌, length};
 ghost use Rattle.meaning.specs.Direct.{dict_rank, dict_select, dict_pred, dict_succ, dict_past, dict_size, dict_plan, dict_write, dict_build};
 ghost use Rattle.sparse_one_nnd.specs.Said.{entries_in, dict_at, said_count, said_found, said_plan, said_built, after};
@@ -17,14 +19,14 @@ use part::{fit, front8, front16, front64, past8, past16, past64};
 use write::write_fits;
 
 // What rank and the byte size answer.
-#[derive(Drop)]
+#[derive(Clone, Copy)]
 pub enum Count {
     Is(usize),
     Broken,
 }
 
 // What select, pred and succ answer.
-#[derive(Drop)]
+#[derive(Clone, Copy)]
 pub enum Found {
     At(usize),
     Nothing,
@@ -32,7 +34,7 @@ pub enum Found {
 }
 
 // What the plan answers: the counts, or why there is no dictionary.
-#[derive(Drop)]
+#[derive(Clone, Copy)]
 pub enum Planned {
     Fits(SparseOneNnd),
     Broken,
@@ -41,7 +43,7 @@ pub enum Planned {
 }
 
 // What a write or a build answers.
-#[derive(Drop)]
+#[derive(Clone, Copy)]
 pub enum Built {
     Made(SparseOneNnd),
     Broken,
@@ -51,7 +53,7 @@ pub enum Built {
 }
 
 // The record of counts of a dictionary: bytes, middle entries and large entries.
-#[derive(Drop)]
+#[derive(Clone, Copy)]
 pub struct SparseOneNnd {
     pub bytes: usize,
     pub middles: usize,
@@ -253,7 +255,7 @@ impl SparseOneNnd {
         middles: &mut [u16],
         larges: &mut [u64],
     ) -> Built
-        ensures { after (said_built result) (dict_at bytes.exit.now middles.new larges.new) ≡ dict_build ws.now n (record { bytes = length bytes.entry.now; middle = length middles.old; large = length larges.old }) }
+        ensures { after (said_built result) (dict_at bytes.new middles.new larges.new) ≡ dict_build ws.now n (record { bytes = length bytes.old; middle = length middles.old; large = length larges.old }) }
     {
         words::zero8(bytes);
         words::zero16(middles);

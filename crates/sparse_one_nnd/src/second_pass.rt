@@ -13,7 +13,7 @@ use bit_string::Step;
 use bit_string::one_indices::OneIndices;
 
 // Where the pass is: byte position and rank, and those of the large entry.
-#[derive(Drop)]
+#[derive(Clone, Copy)]
 pub struct Writing {
     pub at: usize,
     pub rank: usize,

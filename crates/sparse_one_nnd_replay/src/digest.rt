@@ -1,7 +1,7 @@
 // The digest of a field that the record leaves out: the numbers in decimal, parted by spaces.
 
 // How many bytes the text has so far, and its digest.
-#[derive(Drop)]
+#[derive(Clone, Copy)]
 pub struct Sum(pub usize, pub u64);
 
 fn more(d: Sum, b: u64) -> Sum {

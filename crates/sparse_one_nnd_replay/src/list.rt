@@ -2,7 +2,7 @@
 use crate::text::{Entry, next_entry};
 
 // A list that was read: where the next field starts, how many numbers it has, and the last of them.
-#[derive(Drop)]
+#[derive(Clone, Copy)]
 pub struct Listed {
     pub next: usize,
     pub count: usize,
@@ -10,7 +10,7 @@ pub struct Listed {
 }
 
 // The numbers from the first up to before the second.
-#[derive(Drop)]
+#[derive(Clone, Copy)]
 pub struct Span(pub usize, pub usize);
 
 fn span_of(e: Entry) -> Span {

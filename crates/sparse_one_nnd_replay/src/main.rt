@@ -1,6 +1,8 @@
 // Replays the recorded answers of the original about sparse dictionaries, and compares each with what the dictionary here holds and answers. Where
 // 01 differs from the original the answer is 01's, and the record is held to what the original does there. Then each dictionary is damaged and asked
 // again. The input is testdata/dict.txt, whole.
+#![tactic(auto)]
+
 mod digest;
 mod list;
 mod text;
@@ -14,7 +16,7 @@ use want::{Case, answer, held, length, stops, there};
 
 // Where the reading stands; how many answers were compared and how many were different; how many were asked of damaged areas and how many of those
 // are BROKEN.
-#[derive(Drop)]
+#[derive(Clone, Copy)]
 struct Run {
     at: usize,
     answers: u64,
@@ -260,7 +262,7 @@ fn case_of(made: Built, ones: usize, last: usize, args: usize) -> Case {
 }
 
 // A case as it was read: how many bits, ones and arguments, the last one, and where its answers start.
-#[derive(Drop)]
+#[derive(Clone, Copy)]
 struct Loaded {
     bits: usize,
     ones: usize,

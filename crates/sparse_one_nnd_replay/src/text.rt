@@ -2,7 +2,7 @@
 // by a tab, a space or a newline.
 ghost use Rattle.std.specs.Prelude.{◌<◌};
 
-#[derive(Drop)]
+#[derive(Clone, Copy)]
 pub enum Entry {
     Empty,
     One(usize),
@@ -17,7 +17,7 @@ pub enum Entry {
     Other,
 }
 
-#[derive(Drop)]
+#[derive(Clone, Copy)]
 pub struct Read {
     pub entry: Entry,
     pub stop: u8,
@@ -124,7 +124,7 @@ pub fn next_entry(text: &[u8], at: usize) -> Read {
 }
 
 // Each kind of entry as three numbers, so that two can be compared.
-#[derive(Drop)]
+#[derive(Clone, Copy)]
 pub struct Parts(pub usize, pub usize, pub usize);
 
 pub fn key(e: Entry) -> Parts {

@@ -3,7 +3,7 @@ use crate::text::{Entry, wide};
 use sparse_one_nnd::{Count, Found, SparseOneNnd};
 
 // A case: how many ones there are and the last of them, how many arguments, and the counts that the build answered, if it was not FULL.
-#[derive(Drop)]
+#[derive(Clone, Copy)]
 pub struct Case {
     pub ones: usize,
     pub last: usize,

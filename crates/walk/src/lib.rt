@@ -1,5 +1,7 @@
 // The walk of a tree: "From the root: the first child if there is one, else the next sibling of the nearest node on the way
 // back that has one." Levels and labels go in order into lent lists, the way back into scratch.
+#![tactic(auto)]
+
 ghost use Rattle.std.specs.Prelude.{◌≡◌, [], ◌∷◌, pred, ◌^◌, ◌≤◌};
 ghost use Rattle.meaning.specs.Child as child;
 ghost use Rattle.meaning.specs.Questions.{lent_at};
@@ -18,7 +20,7 @@ mod onward;
 mod way;
 
 // The number of nodes that the walk met; ROOM; or what a question refused.
-#[derive(Drop)]
+#[derive(Clone, Copy)]
 pub enum Walked {
     Is(usize),
     Room(usize),
@@ -26,14 +28,14 @@ pub enum Walked {
 }
 
 // The lengths of the two lists and of scratch.
-#[derive(Drop)]
+#[derive(Clone, Copy)]
 struct Rooms {
     levels: usize,
     labels: usize,
     scratch: usize,
 }
 
-#[derive(Drop)]
+#[derive(Clone, Copy)]
 enum Check {
     Fits,
     Room(usize),

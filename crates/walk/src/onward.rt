@@ -11,7 +11,7 @@ use questions::{Linked, Node, Refusal};
 use record::Counts;
 
 // A node under so many nodes of the way back, and its label; no node is left; or what a question refused.
-#[derive(Drop)]
+#[derive(Clone, Copy)]
 pub enum Step {
     To(usize, Node, u32),
     Nothing,

@@ -1,4 +1,6 @@
 // Lent words: a bit read and stored, whether they hold a length, and zeros in each kind of area.
+#![tactic(auto)]
+
 ghost use Rattle.std.specs.Prelude.{◌≡◌, ◌*◌, ◌^◌, ◌<◌, ◌≤◌, leb, eqb, length, get_or, replicate};
 ghost use Rattle.meaning.specs.Bits.{bit, as_bit, with_bit, bit_at, stored, word_count};
 
