@@ -98,7 +98,7 @@ module _ (c c' : Counts) (v b : ℕ) (a a' z z' : Lent) (r r' : Built) (s : Same
   replies (inr e) = reply c v b a z r g (some e.0) e.1 ∙ sym (reply c' v b a' z' r' g' (some e.0) (sym same_checks ∙ e.1))
 
   same_answer : r ≡ r'
-  same_answer = answers_agree r r' g.counts g'.counts (replies (which (grow_refusal (tree_in c) a v)))
+  same_answer = answers_agree z z' r r' g.counts g'.counts (replies (which (grow_refusal (tree_in c) a v)))
 
   labels_in : a.labels ≡ a'.labels → (grow_refusal (tree_in c) a v ≡ none) ⊎ ((x : Refusal) × (grow_refusal (tree_in c) a v ≡ some x)) → z.labels ≡ z'.labels
   unfolding new_areas as_stood

@@ -12,15 +12,16 @@ use Rattle.meaning.specs.Areas.{Rooms}
 use Rattle.meaning.specs.Refusals.{refusal, Accepted}
 use Rattle.meaning.specs.Build.{Lent, After, rooms_of, tree_of, lent_of, zeroed, build}
 use Rattle.meaning.specs.Growth.{grow}
-use Rattle.meaning.specs.Demands.{Answered, grow_on, Grows}
+use Rattle.meaning.specs.Demands.{AnsweredLabels, grow_on, GrowsLabels}
 use Rattle.meaning.proofs.Accepted.{accepted_exactly}
 use Rattle.meaning.proofs.Lent.{rooms_of_lem}
 use Rattle.meaning.proofs.Growth as growth
 use Rattle.meaning.proofs.Demands.{answered, grows}
+use Rattle.meaning.proofs.EdgesGrow.{answered_labels, grows_labels}
 use Rattle.balanced_parens.specs.Said.{refusal_of, is_made, said}
 use Rattle.balanced_parens.specs.Areas.{after}
 use Rattle.balanced_parens.specs.Contract.{Builds, GrowsTo}
-use Rattle.balanced_parens.specs.Demands.{BuildAnswers, GrowthRefused, Grown, none_more, one_more, tree_at}
+use Rattle.balanced_parens.specs.Demands.{BuildAnswers, TreeAnswers, Growth, GrowthRefused, Grown, none_more, one_more, tree_at}
 use Rattle.balanced_parens.specs.declared.answer.Built.{Built}
 use Rattle.balanced_parens.specs.declared.answer.Verdict.TheVariants as verdict
 use Rattle.balanced_parens.proofs.Builds.{which}
@@ -77,6 +78,7 @@ module _ (vs bs : List ℕ) (a z : Lent) (r : Built) (b : Builds vs bs a z r) wh
         lengths = keeps (which (refusal vs bs rooms));
       }
 
+  -- Demand 2
   module _ (acc : Accepted vs bs rooms) where
     none_refuses : refusal vs bs rooms ≡ none
     none_refuses = (accepted_exactly vs bs rooms).1 acc
@@ -87,9 +89,12 @@ module _ (vs bs : List ℕ) (a z : Lent) (r : Built) (b : Builds vs bs a z r) wh
     built_is : tree_at r z ≡ build vs bs rooms
     built_is = ap (λ x. after x z) (sym (says_tree r built_made)) ∙ b.outcome
 
-    -- the answers of the tree that it made
-    pub tree_answers : Answered vs bs (tree_at r z)
-    tree_answers = answered vs bs rooms acc (tree_at r z) built_is
+    pub tree_answers : TreeAnswers vs bs z r
+    tree_answers = record { made = built_made; answered = answered vs bs rooms acc (tree_at r z) built_is }
+
+    -- and its labels
+    pub tree_labels : AnsweredLabels vs bs (tree_at r z)
+    tree_labels = answered_labels vs bs rooms acc (tree_at r z) built_is
 
 -- in areas of the same lengths
 elsewhere : (vs bs : List ℕ) (a a' z : Lent) (r : Built) → rooms_of a' ≡ rooms_of a → Builds vs bs a' z r → Builds vs bs a z r
@@ -116,15 +121,33 @@ module _ (vs bs : List ℕ) (v b : ℕ) (a z₁ : Lent) (r₁ : Built) (acc : Ac
       record { outcome = grow_from ∙ growth.grow_is vs bs (rooms_of a) acc v b ((accepted_exactly vs⁺ bs⁺ (rooms_of a)).1 acc⁺); counts = p₂.counts }
 
   module _ (a' z₃ : Lent) (r₃ : Built) (e : rooms_of a' ≡ rooms_of a) (p₃ : Builds vs⁺ bs⁺ a' z₃ r₃) where
+    -- Demand 3
+    pub growth_demand : Accepted vs⁺ bs⁺ (rooms_of a) → Growth vs bs v b z₁ z₂ z₃ r₁ r₂ r₃
+    unfolding grow_on
+    growth_demand acc⁺ =
+        let q₂ = grow_builds acc⁺ in
+        let q₃ = elsewhere vs⁺ bs⁺ a a' z₃ r₃ e p₃ in
+        let s = builds_agree z₂ z₃ r₂ r₃ vs⁺ bs⁺ a q₂ q₃ in
+        let m = built_made vs⁺ bs⁺ a z₂ r₂ q₂ acc⁺ in
+        record {
+          areas = s.1;
+          counts = s.0;
+          made = m;
+          answers =
+              grows vs bs v b (rooms_of a) acc acc⁺ (tree_at r₁ z₁) (tree_at r₂ z₂) (tree_at r₃ z₃) (built_is vs bs a z₁ r₁ p₁ acc)
+              (ap (λ x. after x z₂) (sym (says_tree r₂ m)) ∙ p₂.outcome)
+              (built_is vs⁺ bs⁺ a z₃ r₃ q₃ acc⁺);
+        }
+
     -- it leaves what a build of the longer list leaves
     pub growth_equal : Accepted vs⁺ bs⁺ (rooms_of a) → (r₂ ≡ r₃) × (z₂ ≡ z₃)
     growth_equal acc⁺ = builds_agree z₂ z₃ r₂ r₃ vs⁺ bs⁺ a (grow_builds acc⁺) (elsewhere vs⁺ bs⁺ a a' z₃ r₃ e p₃)
 
-    -- and of the answers of its tree one differs
-    pub growth_demand : Accepted vs⁺ bs⁺ (rooms_of a) → Grows vs bs v b (tree_at r₁ z₁) (tree_at r₂ z₂) (tree_at r₃ z₃)
+    -- and of the answers of its tree, with their labels, one differs
+    pub growth_labels : Accepted vs⁺ bs⁺ (rooms_of a) → GrowsLabels vs bs v b (tree_at r₁ z₁) (tree_at r₂ z₂) (tree_at r₃ z₃)
     unfolding grow_on
-    growth_demand acc⁺ =
-        grows vs bs v b (rooms_of a) acc acc⁺ (tree_at r₁ z₁) (tree_at r₂ z₂) (tree_at r₃ z₃) (built_is vs bs a z₁ r₁ p₁ acc)
+    growth_labels acc⁺ =
+        grows_labels vs bs v b (rooms_of a) acc acc⁺ (tree_at r₁ z₁) (tree_at r₂ z₂) (tree_at r₃ z₃) (built_is vs bs a z₁ r₁ p₁ acc)
         (ap (λ x. after x z₂) (sym (says_tree r₂ (built_made vs⁺ bs⁺ a z₂ r₂ (grow_builds acc⁺) acc⁺))) ∙ p₂.outcome)
         (built_is vs⁺ bs⁺ a z₃ r₃ (elsewhere vs⁺ bs⁺ a a' z₃ r₃ e p₃) acc⁺)
 
@@ -135,7 +158,7 @@ module _ (vs bs : List ℕ) (v b : ℕ) (a z₁ : Lent) (r₁ : Built) (acc : Ac
         let g = grow_from ∙ growth.grow_refused vs bs (rooms_of a) acc v b x f in
         let h : said r₃ ≡ refused x = ap (λ (y : After). y.reply) (outcome vs⁺ bs⁺ a z₃ r₃ q₃ ∙ ap (outcome_of (tree_of vs⁺) (lent_of vs⁺ bs⁺ (rooms_of a)) (zeroed (rooms_of a))) f) in
         record {
-          answer = answers_agree r₂ r₃ p₂.counts p₃.counts (ap (λ (y : After). y.reply) g ∙ sym h);
+          answer = answers_agree z₂ z₃ r₂ r₃ p₂.counts p₃.counts (ap (λ (y : After). y.reply) g ∙ sym h);
           areas = ap (λ (y : After). y.areas) g ∙ sym ((tells vs bs a z₁ r₁ p₁).areas n);
         }
 

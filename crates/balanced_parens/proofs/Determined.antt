@@ -8,7 +8,7 @@ use Rattle.balanced_parens.specs.Said.{said}
 use Rattle.balanced_parens.specs.Areas.{after}
 use Rattle.balanced_parens.specs.Contract.{CountsIn}
 use Rattle.balanced_parens.specs.declared.answer.Built.{Built}
-use Rattle.balanced_parens.proofs.Agree.{outcomes_agree, answers_agree}
+use Rattle.balanced_parens.proofs.Agree.{outcomes_agree, built_agree}
 use Rattle.balanced_parens.proofs.answer.is_made.Reads as is_made
 use Rattle.balanced_parens.proofs.answer.is_made.Kinds as is_made_kinds
 use Rattle.balanced_parens.proofs.answer.refuse.Reads as refuse
@@ -34,7 +34,7 @@ pub answer_determined : Determined _ answer_kinds.ps answer_kinds.r answer.Asked
 answer_determined =
     record {
       asks_nothing = λ κs a. tt;
-      agree = λ κs a z z' e e' p q. (answers_agree z z' p.counts q.counts (p.reply ∙ sym q.reply), refl);
+      agree = λ κs a z z' e e' p q. (built_agree z z' p.counts q.counts (p.reply ∙ sym q.reply), refl);
     }
 
 -- zeros

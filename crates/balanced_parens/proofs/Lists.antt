@@ -14,7 +14,7 @@ use Rattle.pioneers.specs.declared.string.Placed.{Placed}
 use Rattle.pioneers.specs.declared.string.Placed.TheVariants as placed
 use Rattle.parentheses.specs.Raises.{raising, Raises, said_raised}
 use Rattle.parentheses.specs.declared.levels.Raised.{Raised}
-use Rattle.balanced_parens.specs.Said.{refusal_of, said, refused_of}
+use Rattle.balanced_parens.specs.Said.{refusal_of, refused_of}
 use Rattle.balanced_parens.specs.Areas.{staged_in}
 use Rattle.balanced_parens.specs.Contract.{Retold, Staged}
 use Rattle.balanced_parens.specs.declared.answer.Built.{Built}

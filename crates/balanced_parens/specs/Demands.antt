@@ -10,6 +10,7 @@ use Rattle.meaning.specs.Areas.{written, counted}
 use Rattle.meaning.specs.Refusals.{refusal, Accepted}
 use Rattle.meaning.specs.Build.{Lent, After, rooms_of, zeroed}
 use Rattle.meaning.specs.Growth.{levels_of, grow_refusal}
+use Rattle.meaning.specs.Demands.{Answered, Grows}
 use Rattle.record.specs.Record.{tree_in, no_counts}
 use Rattle.record.specs.declared.Counts.{Counts}
 use Rattle.balanced_parens.specs.Said.{refusal_of, is_made}
@@ -34,6 +35,11 @@ pub record BuildAnswers (vs bs : List ℕ) (a z : Lent) (r : Built) : Type 0 whe
   -- "Scratch is zero after every call"; no area has another length
   pub scratch : z.scratch ≡ replicate (length a.scratch) 0
   pub lengths : rooms_of z ≡ rooms_of a
+
+-- Demand 2, of a build that is accepted
+pub record TreeAnswers (vs bs : List ℕ) (z : Lent) (r : Built) : Type 0 where
+  pub made : r.verdict ≡ verdict.Made
+  pub answered : Answered vs bs (tree_at r z)
 
 -- the string that growth works from: area 0 and the first bits of the record
 abbrev pub string_at : Counts → Lent → List Bool
@@ -76,6 +82,17 @@ pub record SameGrowth (a a' z z' : Lent) (r r' : Built) : Type 0 where
   pub areas : is_made r.verdict ≡ true → z.held ≡ z'.held
   pub labels : a.labels ≡ a'.labels → z.labels ≡ z'.labels
   pub scratch : z.scratch ≡ z'.scratch
+
+-- Demand 3. r₁ and z₁ are what a build of the list left, r₂ and z₂ what growth of that by level v and label b left, and r₃ and z₃ what a
+-- build of the longer list left in areas of the same lengths
+pub record Growth (vs bs : List ℕ) (v b : ℕ) (z₁ z₂ z₃ : Lent) (r₁ r₂ r₃ : Built) : Type 0 where
+  -- "Growing a tree by one node leaves every catalogue area and the record of counts as building the longer list afresh does"
+  pub areas : z₂ ≡ z₃
+  pub counts : r₂ ≡ r₃
+  pub made : r₂.verdict ≡ verdict.Made
+  -- "and of all older nodes' first-child and next-sibling answers exactly one differs: the new node becomes first child of the last one
+  -- (the root, if the list was empty), or next sibling of the last node at its level, where there was none. No older id or label moves."
+  pub answers : Grows vs bs v b (tree_at r₁ z₁) (tree_at r₂ z₂) (tree_at r₃ z₃)
 
 -- where the longer list is refused, growth is refused as its build is, and leaves all areas as they stood
 pub record GrowthRefused (z₁ z₂ : Lent) (r₂ r₃ : Built) : Type 0 where

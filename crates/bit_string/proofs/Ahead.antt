@@ -2,17 +2,14 @@
 use mathlib.Core.Path.{◌≡◌, refl, sym, ap, ◌∙◌, subst}
 use mathlib.Core.Bool.{Bool, true, false}
 use mathlib.Core.List.{List}
-use mathlib.Core.Logic.{◌⊎◌, inl, inr}
 use Prim.Native.Nat.{ℕ, ◌+◌, ◌-◌, ◌*◌, ◌/◌, ◌%◌, ◌≤◌, ◌<◌}
 use native.Mathlib.Decide.{dec_le, dec_lt}
 use native.Mathlib.Omega.{arith}
 use lib.ListN.{length, get_or, get_or-eq_default}
-use denote.Enum.Declared.{tag_of}
-use Rattle.fixnum.specs.contracts.Found.{the_type}
 use Rattle.fixnum.specs.Said.{said_found}
 use Rattle.fixnum.specs.declared.Found.{Found}
 use Rattle.fixnum.specs.declared.Found.TheVariants as found
-use Rattle.meaning.specs.Answers.{Answer, is, nothing, refused}
+use Rattle.meaning.specs.Answers.{Answer, is, nothing}
 use Rattle.meaning.specs.Plain.{side, plain_succ}
 use Rattle.meaning.specs.Nearest.{IsSucc}
 use Rattle.meaning.specs.Word.{word_bits, word_succ}
@@ -67,13 +64,12 @@ module _ {l : List Bool} {i q o x : ℕ} (s : Ahead l i q o) (w : Marked l q x) 
       let b = met_one j p in
       succ_only l i (is (64 * q + j)) (b.1, omega (arith, s.from, h.1), none_to s w j (omega (arith, b.0)) h.2)
 
-  pub passed : (tag_of the_type f ≡ 1) ⊎ (tag_of the_type f ≡ 2) → Ahead l i (q + 1) 0
+  pub passed : ((j : ℕ) → f ≡ found.At j → ⊥) → Ahead l i (q + 1) 0
   unfolding IsSucc
   passed t = go f t (in_word_lem x o s.within (said_found f) e)
     where
-      go : (f : Found) → (tag_of the_type f ≡ 1) ⊎ (tag_of the_type f ≡ 2) → IsSucc (word_bits 64 x) o (said_found f) → Ahead l i (q + 1) 0
-      go (found.At j) (inl z) h = absurd (omega arith)
-      go (found.At j) (inr z) h = absurd (omega arith)
+      go : (f : Found) → ((j : ℕ) → f ≡ found.At j → ⊥) → IsSucc (word_bits 64 x) o (said_found f) → Ahead l i (q + 1) 0
+      go (found.At j) z h = absurd (z j refl)
       go found.Nothing z h = record {
         within = omega arith;
         from = omega (arith, s.from, s.within);

@@ -2,13 +2,11 @@
 use mathlib.Core.Path.{◌≡◌, refl, sym, ap, ◌∙◌, subst}
 use mathlib.Core.Bool.{Bool, true, false}
 use mathlib.Core.List.{List}
-use mathlib.Core.Logic.{◌⊎◌, inl, inr}
-use Prim.Native.Nat.{ℕ, suc, ◌+◌, ◌-◌, ◌*◌, ◌≤◌, ◌<◌}
+use mathlib.Core.Logic.{inl, inr}
+use Prim.Native.Nat.{ℕ, ◌+◌, ◌-◌, ◌*◌, ◌≤◌, ◌<◌}
 use native.Mathlib.Omega.{arith}
 use lib.ListN.{length, get_or, take}
 use lib.Seq.{take_all}
-use denote.Enum.Declared.{tag_of}
-use Rattle.fixnum.specs.contracts.Found.{the_type}
 use Rattle.fixnum.specs.Said.{said_found}
 use Rattle.fixnum.specs.declared.Found.{Found}
 use Rattle.fixnum.specs.declared.Found.TheVariants as found
@@ -87,13 +85,12 @@ module _ (x k : ℕ) (f : Found) (e : said_found f ≡ word_select true 64 x k) 
       let h : IsSelect (word_bits 64 x) k (is j) = subst (λ g. IsSelect (word_bits 64 x) k (said_found g)) p turn_of in
       (omega (arith, in_length (word_bits 64 x) j h.0, length_word 64 x), h.0, h.1)
 
-  pub turn_none : (o : ℕ) → o ≡ word_ones 64 x → k ≤ o → (tag_of the_type f ≡ 1) ⊎ (tag_of the_type f ≡ 2) → TurnIs (word_bits 64 x) k (turn.Rest 0)
+  pub turn_none : (o : ℕ) → o ≡ word_ones 64 x → k ≤ o → ((j : ℕ) → f ≡ found.At j → ⊥) → TurnIs (word_bits 64 x) k (turn.Rest 0)
   unfolding IsSelect word_ones
   turn_none o q h t = inl (go f t turn_of)
     where
-      go : (f : Found) → (tag_of the_type f ≡ 1) ⊎ (tag_of the_type f ≡ 2) → IsSelect (word_bits 64 x) k (said_found f) → k ≡ 0
-      go (found.At j) (inl z) s = absurd (omega arith)
-      go (found.At j) (inr z) s = absurd (omega arith)
+      go : (f : Found) → ((j : ℕ) → f ≡ found.At j → ⊥) → IsSelect (word_bits 64 x) k (said_found f) → k ≡ 0
+      go (found.At j) z s = absurd (z j refl)
       go found.Nothing z (inl s) = s
       go found.Nothing z (inr s) = absurd (omega arith)
       go (found.Place p) z s = absurd s

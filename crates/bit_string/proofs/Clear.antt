@@ -1,6 +1,5 @@
 -- Bits cut out of a word, and cleared word by word.
 use mathlib.Core.Path.{◌≡◌, refl, sym, ap, ap₂, ◌∙◌, subst}
-use mathlib.Core.Bool.{Bool, false}
 use mathlib.Core.List.{List}
 use mathlib.Core.Logic.{◌⊎◌, inl, inr}
 use Prim.Native.Nat.{ℕ, ◌+◌, ◌-◌, ◌*◌, ◌/◌, ◌%◌, ◌^◌, ◌≤◌, ◌<◌, min}
@@ -15,7 +14,7 @@ use lib.Seq.{get_or-set_same, get_or-set_other}
 use Rattle.meaning.specs.Bits.{bit, bit_at, cleared}
 use Rattle.meaning.proofs.Bit.{bit_low, bit_past, bit_shr}
 use Rattle.meaning.proofs.Tab.{Below}
-use Rattle.meaning.proofs.Stored.{bit_at_word, words_ext, length_cleared, cleared_below, cleared_out, cleared_in}
+use Rattle.meaning.proofs.Stored.{words_ext, length_cleared, cleared_below, cleared_out, cleared_in}
 use Rattle.bit_string.specs.Part.{Cut}
 
 -- ---- the k low bits of x, and those from h on

@@ -1,5 +1,5 @@
 -- The ones or the zeros of one word before the length, and their count word by word.
-use mathlib.Core.Path.{◌≡◌, refl, sym, ap, ap₂, ◌∙◌, subst}
+use mathlib.Core.Path.{◌≡◌, sym, ap, ap₂, ◌∙◌}
 use mathlib.Core.Bool.{Bool, true, false}
 use mathlib.Core.List.{List}
 use Prim.Native.Nat.{ℕ, ◌+◌, ◌-◌, ◌*◌, ◌/◌, ◌%◌, ◌^◌, ◌≤◌, ◌<◌}
@@ -7,10 +7,10 @@ use native.Mathlib.Nat.{mod-lt}
 use native.Mathlib.Decide.{dec_le}
 use native.Mathlib.Omega.{arith}
 use lib.Dec.{eqb}
-use lib.ListN.{length, get_or, take, drop}
+use lib.ListN.{get_or, take, drop}
 use lib.Pow.{pow_pos}
 use lib.Seq.{take-add, take_all, get_or-drop}
-use Rattle.meaning.specs.Bits.{opens, bit, bit_at, bits_of}
+use Rattle.meaning.specs.Bits.{opens, bit, bits_of}
 use Rattle.meaning.specs.Plain.{side}
 use Rattle.meaning.specs.Word.{word_bits, word_ones}
 use Rattle.meaning.proofs.Bit.{bit_none, bit_low, bit_past}

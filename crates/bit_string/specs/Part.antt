@@ -1,5 +1,5 @@
 -- What the private functions that work by words hold.
-use Rattle.std.specs.Prelude.{◌≡◌, Bool, true, false, not, List, ◌⊎◌, ℕ, suc, ◌+◌, ◌*◌, ◌≤◌, ◌<◌, get_or, take}
+use Rattle.std.specs.Prelude.{◌≡◌, Bool, true, false, List, ◌⊎◌, ℕ, suc, ◌+◌, ◌*◌, ◌≤◌, ◌<◌, get_or, take}
 use Rattle.meaning.specs.Bits.{opens, bit}
 use Rattle.meaning.specs.Plain.{side}
 use Rattle.meaning.specs.Word.{word_bits}

@@ -4,4 +4,5 @@ mod Rooms
 pub mod Asked
 mod Flags
 pub mod Agree
+pub mod Built
 pub mod Determined

@@ -1,5 +1,5 @@
 -- The record that a call puts is the tree that the next call reads.
-use mathlib.Core.Path.{◌≡◌, refl, sym, ap, ◌∙◌, subst}
+use mathlib.Core.Path.{◌≡◌, refl, sym, ap, subst}
 use mathlib.Core.Bool.{Bool, true, false}
 use mathlib.Core.List.{List, [], ◌∷◌, ◌++◌, map}
 use Prim.Native.Nat.{ℕ, zero, suc, ◌-◌, ◌≤◌}
@@ -12,7 +12,7 @@ use Rattle.meaning.specs.Dictionary.{dict_of}
 use Rattle.meaning.specs.Family.{Level, no_dict, tower}
 use Rattle.meaning.specs.String.{string}
 use Rattle.meaning.specs.Areas.{Counts, counts_of, no_counts, counted}
-use Rattle.meaning.specs.Build.{Tree, tree_of}
+use Rattle.meaning.specs.Build.{tree_of}
 use Rattle.meaning.proofs.If.{if_true, if_false}
 use Rattle.record.specs.Record.{tree_in}
 use Rattle.record.specs.declared.Counts as code

@@ -3,5 +3,6 @@ pub mod Putting
 pub mod Called
 pub mod Made
 pub mod Toured
+pub mod Agree
 pub mod Again
 pub mod Determined

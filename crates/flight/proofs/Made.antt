@@ -7,10 +7,10 @@ use Prim.Native.Nat.{ℕ}
 use lib.ListN.{length, replicate}
 use lib.Seq.{sets}
 use Rattle.meaning.specs.Answers.{Refusal, Answer}
-use Rattle.meaning.specs.Build.{Lent, rooms_of, Tree, zeroed, build}
+use Rattle.meaning.specs.Build.{Lent, rooms_of, Tree, zeroed}
 use Rattle.meaning.specs.Growth.{grow}
 use Rattle.meaning.proofs.If.{if_true, if_false}
-use Rattle.record.specs.Record.{tree_in, no_counts, reply_of}
+use Rattle.record.specs.Record.{tree_in, reply_of}
 use Rattle.record.specs.declared.Counts.{Counts}
 use Rattle.balanced_parens.specs.Said.{refusal_of, is_made, said}
 use Rattle.balanced_parens.specs.Areas.{after, lent_at, Cleared}

@@ -5,8 +5,7 @@ use mathlib.Core.List.{List, [], ◌∷◌}
 use Prim.Native.Nat.{ℕ}
 use Rattle.meaning.specs.Answers.{is, refused}
 use Rattle.record.specs.Record.{tree_in, reply_of}
-use Rattle.record.specs.declared.Counts.{Counts}
-use Rattle.questions.specs.Said.{node_of, refusal_of, said_edge, said_label, said_number, said_truth}
+use Rattle.questions.specs.Said.{refusal_of, said_edge, said_label, said_number, said_truth}
 use Rattle.questions.specs.declared.Node.{Node}
 use Rattle.questions.specs.declared.Refusal.{Refusal}
 use Rattle.questions.specs.declared.Refusal.TheVariants as refusal

@@ -16,7 +16,7 @@ use Rattle.meaning.proofs.Runs.{sets_zeros}
 use Rattle.meaning.proofs.ReadList.{lines_none, lines_over, lines_row, lines_bad, list_spelt}
 use Rattle.listing.specs.Said.{said_line}
 use Rattle.listing.specs.declared.Line.{Line}
-use Rattle.listing.specs.declared.Line.TheVariants as Line-of
+use Rattle.listing.specs.declared.Line.TheVariants as line_of
 
 abbrev pub zeros : ℕ → List ℕ
 zeros n = replicate n 0
@@ -116,7 +116,7 @@ module _ {s : List ℕ} {m n : ℕ} {ls bs : List ℕ} {a k : ℕ} (f : Filling 
   left : k < 512 → 512 - k ≡ suc (512 - (k + 1))
   left h = omega arith
 
-  pub filled_more : (l : Line) (v w p : ℕ) → a < length s → (k ≡ 512 → ⊥) → said_line s l ≡ row (drop a s) → l ≡ Line-of.Is v w p
+  pub filled_more : (l : Line) (v w p : ℕ) → a < length s → (k ≡ 512 → ⊥) → said_line s l ≡ row (drop a s) → l ≡ line_of.Is v w p
       → Filling s m n (set ls k v) (set bs k w) p (k + 1)
   filled_more l v w p i h e g =
       let i = f.within in
@@ -146,7 +146,7 @@ module _ {s : List ℕ} {m n : ℕ} {ls bs : List ℕ} {a k : ℕ} (f : Filling 
     unfolding onward
     refused_at j e u = sym (f.is ∙ ap (onward k ls bs) e ∙ readings (text_is u) (sym o) (sym q)) ∙ ap₂ (read_of s) x y
 
-    pub filled_bad : (l : Line) → a < length s → (k ≡ 512 → ⊥) → said_line s l ≡ row (drop a s) → l ≡ Line-of.Bad
+    pub filled_bad : (l : Line) → a < length s → (k ≡ 512 → ⊥) → said_line s l ≡ row (drop a s) → l ≡ line_of.Bad
         → reading (refused (bad_text (k + 1))) ls' bs' ≡ read_of s m' n'
     filled_bad l i h e g =
         let w = f.within in

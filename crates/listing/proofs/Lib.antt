@@ -4,4 +4,5 @@ pub mod Putting
 pub mod Pieces
 pub mod Nodes
 pub mod Told
+pub mod Agree
 pub mod Determined

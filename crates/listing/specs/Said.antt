@@ -9,7 +9,7 @@ use Rattle.listing.specs.declared.Value.TheVariants as value
 use Rattle.listing.specs.declared.Number.{Number}
 use Rattle.listing.specs.declared.Number.TheVariants as number
 use Rattle.listing.specs.declared.Line.{Line}
-use Rattle.listing.specs.declared.Line.TheVariants as Line-of
+use Rattle.listing.specs.declared.Line.TheVariants as line_of
 use Rattle.listing.specs.declared.Read.{Read}
 use Rattle.listing.specs.declared.Read.TheVariants as read
 use Rattle.listing.specs.declared.Put.{Put}
@@ -33,8 +33,8 @@ said_number s (number.Is v p) = got v (drop p s)
 said_number s number.Bad = none
 
 abbrev pub said_line : List ℕ → Line → Option Row
-said_line s (Line-of.Is v w p) = got_row v w (drop p s)
-said_line s Line-of.Bad = none
+said_line s (line_of.Is v w p) = got_row v w (drop p s)
+said_line s line_of.Bad = none
 
 -- what a refusal carries
 abbrev pub carries : Carried → List ℕ

@@ -1,4 +1,4 @@
--- The answer in a buffer; the buffer's first bytes decide for the whole input.
+-- The answer in a buffer; two answers agree; the buffer's first bytes decide for the whole input.
 use mathlib.Core.Path.{◌≡◌, refl, sym, ap, ◌∙◌}
 use mathlib.Core.List.{List}
 use Prim.Native.Nat.{ℕ, ◌+◌}
@@ -42,6 +42,10 @@ module _ {s b a : List ℕ} {p : Put} (f : Puts b 0 (listwalk_of s) p a) where
         bytes = f.bytes;
         text = λ k. absurd (omega (arith, listwalk_size s));
       }
+
+-- any two outcomes agree
+pub answers_agree : {s b : List ℕ} {n n' : ℕ} {a a' : List ℕ} → Answered s b n a → Answered s b n' a' → (n ≡ n') × (a ≡ a')
+answers_agree p q = (p.number ∙ sym q.number, p.bytes ∙ sym q.bytes)
 
 -- of an input of any length, read as far as a buffer of 65,536 bytes goes, and answered in such a buffer
 pub whole_input : (s : List ℕ) {b : List ℕ} {n : ℕ} {a : List ℕ} → length b ≡ 65536 → Answered (take 65536 s) b n a → take n a ≡ listwalk_of s

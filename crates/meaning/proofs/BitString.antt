@@ -15,7 +15,7 @@ use Rattle.meaning.specs.Answers.{Answer, is, nothing, refused, place, room, bro
 use Rattle.meaning.specs.Bits.{opens, tab, places, as_bit, bit_at, bits_of, stored, cleared, word_count}
 use Rattle.meaning.specs.Plain.{side, plain_rank, plain_select, plain_pred, plain_succ}
 use Rattle.meaning.specs.Nearest.{IsSucc}
-use Rattle.meaning.specs.BitString.{held, if_held, before_end, string_get, string_rank, string_select, string_pred, string_succ, string_size, Edited, edited, edit_if, string_set, string_push, resized, string_resize, met_at, one_from, one_indices}
+use Rattle.meaning.specs.BitString.{held, if_held, before_end, string_get, string_rank, string_select, string_pred, string_succ, string_size, edited, edit_if, string_set, string_push, resized, string_resize, met_at, one_from, one_indices}
 use Rattle.meaning.proofs.If.{if_true, if_false}
 use Rattle.meaning.proofs.Plain.{length_map, get_d_map}
 use Rattle.meaning.proofs.Sought.{succ_has, succ_here, succ_past, succ_on}

@@ -2,21 +2,21 @@
 use mathlib.Core.Path.{◌≡◌, sym, subst}
 use mathlib.Core.Bool.{Bool, true, false}
 use mathlib.Core.Logic.{◌⊎◌, inl, inr}
-use mathlib.Core.List.{List, [], ◌∷◌, ◌++◌}
-use Prim.Native.Nat.{ℕ, zero, suc, ◌+◌, ◌*◌, ◌-◌, ◌/◌, ◌≤◌}
+use mathlib.Core.List.{List, [], ◌∷◌}
+use Prim.Native.Nat.{ℕ, zero, suc, ◌+◌, ◌*◌, ◌/◌, ◌≤◌}
 use native.Mathlib.Omega.{arith}
 use lib.Dec.{leb}
 use lib.ListN.{length, length-append}
-use Rattle.meaning.specs.Bits.{opens, words_of, word_count}
+use Rattle.meaning.specs.Bits.{words_of, word_count}
 use Rattle.meaning.specs.String.{string}
 use Rattle.meaning.specs.List.{Rule}
 use Rattle.meaning.specs.Pioneers.{flags, pioneer_string}
-use Rattle.meaning.specs.Dictionary.{end_of, block_count, ones_to, byte_pos, dict_of, dict_with, middle_pos, middle_rank, large_pos, large_rank}
+use Rattle.meaning.specs.Dictionary.{block_count, ones_to, byte_pos, dict_of, dict_with, middle_pos, middle_rank, large_pos, large_rank}
 use Rattle.meaning.specs.Family.{Level, no_dict, tower}
 use Rattle.meaning.specs.Areas.{joined, area_words, area_bytes, area_middle, area_large}
 use Rattle.meaning.specs.Bounds.{bits_above, words_above, blocks_in, words_up, bytes_up, middle_up, large_up, words_for, bytes_for, middle_for, large_for}
 use Rattle.meaning.proofs.If.{bit, if_true, if_false}
-use Rattle.meaning.proofs.Tab.{opens_closes, opens_take}
+use Rattle.meaning.proofs.Tab.{opens_take}
 use Rattle.meaning.proofs.Words.{length_words}
 use Rattle.meaning.proofs.String.{Walk, string_walk, string_length}
 use Rattle.meaning.proofs.Rank.{length_pair_up}

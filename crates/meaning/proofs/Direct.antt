@@ -1,6 +1,6 @@
 -- THE END of a dictionary built directly: when it is accepted, that its numbers fit u8, u16 and u64, and that its questions find what they mean.
 use mathlib.Core.Path.{◌≡◌, refl, sym, ap, ◌∙◌, subst}
-use mathlib.Core.Bool.{Bool, true, false}
+use mathlib.Core.Bool.{Bool, true}
 use mathlib.Core.Option.{Option, none, some}
 use mathlib.Core.Logic.{◌↔◌}
 use mathlib.Core.List.{List, [], ◌∷◌}
@@ -14,7 +14,6 @@ use Rattle.meaning.specs.Answers.{Refusal, Answer, is, refused, or_broken}
 use Rattle.meaning.specs.Bits.{opens, bits_of}
 use Rattle.meaning.specs.Dictionary.{Dict, rank_of, select_of, pred_of, succ_of, dict_of, dict_with, block_count, middle_pos, middle_rank, large_pos, large_rank}
 use Rattle.meaning.specs.Nearest.{IsSelect, IsPred, IsSucc}
-use Rattle.meaning.specs.Close.{test}
 use Rattle.meaning.specs.Areas.{filled}
 use Rattle.meaning.specs.Refusals.{refuse, check, LowestFull, full_block, full_at, first_of}
 use Rattle.meaning.specs.Direct.{DictRooms, Entries, dict_zeroed, dict_refusal, entries_of, dict_written, dict_build, dict_in, entries_fit, if_fit, most_bits, dict_rank, dict_select, dict_pred, dict_succ, DictAccepted}

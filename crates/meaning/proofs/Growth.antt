@@ -1,4 +1,4 @@
--- THE END of growth: over the areas that a build leaves it is a build of the longer list.
+-- THE END of growth: over the areas that a build leaves it is a build of the longer list, and of the answers by the steps one changes.
 use mathlib.Core.Path.{◌≡◌, sym, ap, ap₂, ◌∙◌}
 use mathlib.Core.Bool.{true}
 use mathlib.Core.Option.{some, none}
@@ -11,16 +11,21 @@ use borrow.Author.Tests.{le-leb, eq-eqb}
 use Rattle.meaning.specs.Answers.{Refusal, is, refused}
 use Rattle.meaning.specs.Bits.{bits_of}
 use Rattle.meaning.specs.String.{string}
+use Rattle.meaning.specs.List.{Rule, greatest}
 use Rattle.meaning.specs.Family.{tower}
 use Rattle.meaning.specs.Areas.{Rooms, filled, written, counted}
 use Rattle.meaning.specs.Refusals.{check, checks, first_of, refusal, Accepted}
-use Rattle.meaning.specs.Build.{rooms_of, tree_of, lent_of, build, After}
+use Rattle.meaning.specs.Build.{rooms_of, tree_of, lent_of, build, After, answers_in}
 use Rattle.meaning.specs.Growth.{grown, grown_tower, one_root, levels_of, bits_in, sound_in, sound, grow_refusal, grow}
+use Rattle.meaning.specs.Change.{AnswersGrow}
 use Rattle.meaning.proofs.If.{and_true, if_none, if_some}
 use Rattle.meaning.proofs.Levels.{levels_of_lem}
 use Rattle.meaning.proofs.OneRoot.{string_one_root, one_root_test}
 use Rattle.meaning.proofs.Accepted.{accepted_exactly}
-use Rattle.meaning.proofs.Held.{held_string}
+use Rattle.meaning.proofs.Front.{rule_front}
+use Rattle.meaning.proofs.Change.{answers_grow}
+use Rattle.meaning.proofs.Stepped.{grow_by}
+use Rattle.meaning.proofs.Held.{held_string, held_answers}
 use Rattle.meaning.proofs.Lent.{rooms_of_lem, bits_in_lem, words_fit}
 
 module _ (vs bs : List ℕ) (rooms : Rooms) (a : Accepted vs bs rooms) where
@@ -98,3 +103,13 @@ module _ (vs bs : List ℕ) (rooms : Rooms) (a : Accepted vs bs rooms) where
     grow_refused r e =
         if_some _ _ r (grow_refusal_lem ∙ e)
         ∙ ap (λ s. record { reply = refused r; areas = record { held = (lent_of vs bs rooms).held; labels = (lent_of vs bs rooms).labels; scratch = s } }) scratch_same
+
+-- of the answers by the steps, before and after, one changes
+pub grow_answers : (vs bs : List ℕ) (v b : ℕ) (rooms : Rooms) → Rule (vs ++ v ∷ []) → length (vs ++ v ∷ []) ≤ greatest
+    → AnswersGrow vs v (string vs) (string (vs ++ v ∷ [])) (answers_in (tree_of vs) (lent_of vs bs rooms))
+    (answers_in (tree_of (vs ++ v ∷ [])) (lent_of (vs ++ v ∷ []) (bs ++ b ∷ []) rooms))
+grow_answers vs bs v b rooms r h =
+    grow_by vs v (string vs) (string (vs ++ v ∷ [])) (answers_grow vs v r) (answers_in (tree_of vs) (lent_of vs bs rooms))
+    (answers_in (tree_of (vs ++ v ∷ [])) (lent_of (vs ++ v ∷ []) (bs ++ b ∷ []) rooms))
+    (held_answers vs bs rooms (rule_front vs v [] r).0 (omega (arith, length-append vs (v ∷ []))))
+    (held_answers (vs ++ v ∷ []) (bs ++ b ∷ []) rooms r h)

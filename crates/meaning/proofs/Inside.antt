@@ -1,20 +1,18 @@
 -- What the steps find: a close lies before the length.
-use mathlib.Core.Path.{◌≡◌, refl, sym, ap, ◌∙◌}
-use mathlib.Core.Bool.{Bool, true, false, ◌&&◌}
+use mathlib.Core.Path.{◌≡◌, refl}
+use mathlib.Core.Bool.{Bool, true, false}
 use mathlib.Core.Option.{Option, none, some}
 use mathlib.Core.Logic.{◌⊎◌, inl, inr}
 use mathlib.Core.List.{List, [], ◌∷◌}
 use Prim.Native.Nat.{ℕ, zero, suc, ◌+◌, ◌*◌, ◌-◌, ◌/◌, ◌%◌, ◌≤◌, ◌<◌}
 use native.Mathlib.Omega.{arith}
-use lib.Dec.{ltb, leb, eqb}
+use lib.Dec.{ltb, eqb}
 use lib.ListN.{length, get_or}
 use borrow.Author.Tests.{ltb-true}
 use Rattle.meaning.specs.Answers.{or_broken}
-use Rattle.meaning.specs.Dictionary.{pred_of}
 use Rattle.meaning.specs.Family.{Level}
-use Rattle.meaning.specs.Close.{in_word, excess, left_bit, left_from, from_close, and_then, found, test, family_close, far_close, close_at}
+use Rattle.meaning.specs.Close.{in_word, left_bit, left_from, from_close, and_then, found, test, far_close, close_at}
 use Rattle.meaning.specs.Walk.{lowest}
-use Rattle.meaning.proofs.If.{if_true, if_false}
 
 -- the walk to the left ends before its start, or with what it started with
 left_inside : (l : List Bool) (s d k e : ℕ) (best : Option ℕ) (j : ℕ) → left_from l s d k e best ≡ some j → (best ≡ some j) ⊎ (j < s + k)

@@ -17,13 +17,12 @@ use Rattle.meaning.specs.List.{offending, Rule, greatest}
 use Rattle.meaning.specs.Pioneers.{flags, pioneer_string}
 use Rattle.meaning.specs.Dictionary.{block_count, ones_to, byte_pos, dict_of, dict_with, middle_pos, middle_rank, large_pos, large_rank}
 use Rattle.meaning.specs.Family.{Level, no_dict, tower}
-use Rattle.meaning.specs.Child.{Node}
 use Rattle.meaning.specs.Sibling.{next}
 use Rattle.meaning.specs.Kin.{node_at, below, HasLevel}
 use Rattle.meaning.specs.Areas.{Rooms, joined, area_words, area_bytes, area_middle, area_large}
 use Rattle.meaning.specs.Refusals.{check, full_block, full_at, full_from, first_of, level_rule, checks, refusal, Accepted}
 use Rattle.meaning.specs.Build.{tree_of, lent_of}
-use Rattle.meaning.specs.Questions.{next_sibling, heard, edge_of}
+use Rattle.meaning.specs.Questions.{next_sibling, heard}
 use Rattle.meaning.specs.Listing.{Enough, id_at_level, sibling_id, id_of}
 use Rattle.meaning.proofs.If.{bit, if_true, if_false, and_true, both}
 use Rattle.meaning.proofs.Tab.{opens_append, opens_take}
@@ -36,7 +35,7 @@ use Rattle.meaning.proofs.Deep.{flags_few, up_few}
 use Rattle.meaning.proofs.Narrow.{bytes_ones, end_le}
 use Rattle.meaning.proofs.Accepted.{accepted_exactly}
 use Rattle.meaning.proofs.Kin.{node_of_lem, kin}
-use Rattle.meaning.proofs.Questions.{next_sibling_lem}
+use Rattle.meaning.proofs.Questions.{asking_are}
 
 -- fewer than 256 ones fill no block
 few_full : (k b : ℕ) (f : List Bool) → opens f < 256 → full_block k b f ≡ none
@@ -188,14 +187,8 @@ sibling_id_lem vs r k h = go (level_or_not vs (get_or vs k 0) (suc k + below vs 
     go (inl g) = has_level vs (get_or vs k 0) (suc k + below vs k) g ∙ sym (ap id_of ((kin vs r k h).sib g))
     go (inr e) = e ∙ sym (ap id_of ((kin vs r k h).no_sib (no_level vs (get_or vs k 0) (suc k + below vs k) e)))
 
-heard_edge : (bs : List ℕ) (o : Option Node) → heard (edge_of bs o) ≡ o
-unfolding heard edge_of
-heard_edge bs none = refl
-heard_edge bs (some m) = refl
-
 -- as the question answers it on what a build left
 pub sibling_heard : (vs bs : List ℕ) (rooms : Rooms) (a : Accepted vs bs rooms) (k : ℕ) → k < length vs
     → id_of (heard (next_sibling (tree_of vs) (lent_of vs bs rooms) (node_at vs k))) ≡ sibling_id vs k
 sibling_heard vs bs rooms a k h =
-    ap (λ x. id_of (heard x)) (next_sibling_lem vs bs rooms a (node_at vs k) (node_of_lem vs a.rule k h))
-    ∙ ap id_of (heard_edge bs (next (string vs) (node_at vs k))) ∙ sym (sibling_id_lem vs a.rule k h)
+    ap id_of ((asking_are vs bs rooms a).sib (node_at vs k) (node_of_lem vs a.rule k h)) ∙ sym (sibling_id_lem vs a.rule k h)

@@ -1,8 +1,8 @@
 -- What the code's masks and shifts give at w bits: `1 << i`, `x & (1 << i)`, the two stores, `x & ((1 << n) - 1)`.
 use mathlib.Core.Path.{◌≡◌, refl, sym, ap, ◌∙◌, subst}
 use mathlib.Core.Bool.{Bool, true, false, not}
-use Prim.Native.Nat.{ℕ, zero, suc, ◌+◌, ◌-◌, ◌*◌, ◌/◌, ◌%◌, ◌^◌, ◌≤◌, ◌<◌, suc-le-suc}
-use native.Mathlib.Nat.{add_comm, le_of_suc-le-suc, mod-lt, not-suc-le-zero, one-mul, zero-mul}
+use Prim.Native.Nat.{ℕ, zero, suc, ◌+◌, ◌-◌, ◌*◌, ◌%◌, ◌^◌, ◌≤◌, ◌<◌, suc-le-suc}
+use native.Mathlib.Nat.{le_of_suc-le-suc, mod-lt, not-suc-le-zero, one-mul, zero-mul}
 use native.Mathlib.Omega.{arith}
 use lib.Arith.{digits_lt}
 use lib.Bits.{bit_and, bit_or, bit_xor, and_comm, and_high, and_mask, and_zero_r, or_add_and, xor_add_and}

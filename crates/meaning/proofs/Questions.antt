@@ -1,9 +1,10 @@
 -- THE END of the questions: over the areas that a build leaves none of a node is refused, and the answers are those of the string.
 use mathlib.Core.Path.{◌≡◌, refl, sym, ap, ◌∙◌}
-use mathlib.Core.Bool.{true, false}
+use mathlib.Core.Bool.{Bool, true, false}
 use mathlib.Core.Option.{Option, none, some}
-use mathlib.Core.List.{List}
-use Prim.Native.Nat.{ℕ, zero, suc, pred, ◌+◌, ◌*◌, ◌-◌, ◌<◌}
+use mathlib.Core.Logic.{◌⊎◌, inl, inr}
+use mathlib.Core.List.{List, ◌∷◌, []}
+use Prim.Native.Nat.{ℕ, zero, suc, pred, ◌+◌, ◌*◌, ◌-◌, ◌/◌, ◌<◌, ◌≤◌}
 use native.Mathlib.Omega.{arith}
 use lib.ListN.{length, get_or, take, replicate, get_or-append}
 use borrow.Author.Tests.{le-ltb, lt-ltb, eq-eqb}
@@ -12,27 +13,44 @@ use Rattle.meaning.specs.Bits.{opens}
 use Rattle.meaning.specs.String.{string}
 use Rattle.meaning.specs.Match.{close_of, IsClose}
 use Rattle.meaning.specs.Family.{tower}
-use Rattle.meaning.specs.Child.{Node, IsNode, child}
+use Rattle.meaning.specs.Child.{Node, IsNode, child, root}
 use Rattle.meaning.specs.Sibling.{sibling, next}
-use Rattle.meaning.specs.Walk.{lowest}
+use Rattle.meaning.specs.Walk.{lowest, Tells, tell, visits, AnswersAre}
 use Rattle.meaning.specs.Size.{level_size, byte_size}
 use Rattle.meaning.specs.Leaves.{leaf_count}
 use Rattle.meaning.specs.Areas.{Rooms, filled, counts_of, counted}
 use Rattle.meaning.specs.Refusals.{Accepted}
 use Rattle.meaning.specs.Build.{tree_of, lent_of, levels_in}
 use Rattle.meaning.specs.Growth.{bits_in}
-use Rattle.meaning.specs.Questions.{edge, at_bit, close_in, node_refusal, labelled, first_child, sibling_by, next_sibling, edge_of, leaves_by, leaves_below, count_size, size_in, sized, bytes_held, label_of, label_in}
-use Rattle.meaning.proofs.If.{if_true, if_false, if_none}
+use Rattle.meaning.specs.Questions.{edge, at_bit, close_in, node_refusal, labelled, first_child, sibling_by, next_sibling, edge_of, leaves_by, leaves_below, count_size, size_in, sized, bytes_held, heard, asking, label_of, label_in}
+use Rattle.meaning.proofs.If.{bit, if_true, if_false, if_none}
 use Rattle.meaning.proofs.String.{string_walk, string_length}
 use Rattle.meaning.proofs.Loose.{close_is}
 use Rattle.meaning.proofs.Count.{in_length}
 use Rattle.meaning.proofs.Flag.{matched}
 use Rattle.meaning.proofs.Accepted.{check_true, done, and, all_none}
-use Rattle.meaning.proofs.Nodes.{next_node, child_node, child_id, sibling_new_id}
+use Rattle.meaning.proofs.Ask.{child_some, child_none, sibling_some, sibling_none}
+use Rattle.meaning.proofs.Nodes.{next_node, child_node}
 use Rattle.meaning.proofs.Kin.{node_list}
+use Rattle.meaning.proofs.WalkBy.{walk_by_tells}
 use Rattle.meaning.proofs.Held.{held_close, held_lowest}
 use Rattle.meaning.proofs.Sizes.{size_small}
 use Rattle.meaning.proofs.Lent.{bits_in_lem, counts_fit_lem, sum_counts}
+
+pub child_id : (l : List Bool) (n m : Node) → child l n ≡ some m → 0 < m.id
+child_id l n m e = go (bit (get_or l (suc n.place) false))
+  where
+    go : (get_or l (suc n.place) false ≡ true) ⊎ (get_or l (suc n.place) false ≡ false) → 0 < m.id
+    go (inl b) = let q : record { place = n.place + 1; id = n.id + 1 } ≡ m = cc (child_some l n b) in omega (arith, ap (λ x. x.id) q)
+    go (inr b) = let z : ◌≡◌ {A = ℕ} 0 1 = cc (child_none l n b) in absurd (omega arith)
+
+pub sibling_new_id : (l : List Bool) (c : ℕ) (n m : Node) → sibling l c n ≡ some m → 0 < m.id
+sibling_new_id l c n m e = go (bit (get_or l (suc c) false))
+  where
+    go : (get_or l (suc c) false ≡ true) ⊎ (get_or l (suc c) false ≡ false) → 0 < m.id
+    go (inl b) =
+        let q : record { place = c + 1; id = n.id + (c - n.place) / 2 + 1 } ≡ m = cc (sibling_some l c n b) in omega (arith, ap (λ x. x.id) q)
+    go (inr b) = let z : ◌≡◌ {A = ℕ} 0 1 = cc (sibling_none l c n b) in absurd (omega arith)
 
 -- the label of a node with an id, of an accepted list with labels bs; the root has none
 abbrev pub label_at : List ℕ → ℕ → Answer ℕ
@@ -108,6 +126,24 @@ module _ (vs bs : List ℕ) (rooms : Rooms) (a : Accepted vs bs rooms) where
     where
       c : ℕ
       c = close_of (string vs) n.place
+
+  heard_edge : (o : Option Node) → heard (edge_of bs o) ≡ o
+  unfolding heard edge_of
+  heard_edge none = refl
+  heard_edge (some m) = refl
+
+  -- so a walk by the two questions tells the levels and the labels
+  pub asking_are : AnswersAre (string vs) (asking (tree_of vs) (lent_of vs bs rooms))
+  asking_are =
+      record {
+        kid = λ n i. ap heard (first_child_lem n i) ∙ heard_edge (child (string vs) n);
+        sib = λ n i. ap heard (next_sibling_lem n i) ∙ heard_edge (next (string vs) n);
+      }
+
+  pub asking_tells : (k : ℕ) → length vs ≤ k → Tells vs bs (tell (lent_of vs bs rooms).labels (visits (asking (tree_of vs) (lent_of vs bs rooms)) k (root ∷ [])))
+  unfolding lent_of filled
+  asking_tells k h =
+      walk_by_tells vs a.rule (asking (tree_of vs) (lent_of vs bs rooms)) asking_are bs (replicate (rooms.labels - length bs) 0) a.same k h
 
   -- the label of a node, by its id
   pub label_in_lem : (n : Node) → IsNode (string vs) n → label_in (tree_of vs) (lent_of vs bs rooms) n ≡ label_at bs n.id

@@ -7,20 +7,18 @@ use Prim.Native.Nat.{ℕ, zero, suc, pred, ◌+◌, ◌*◌, ◌^◌, ◌≤◌}
 use native.Mathlib.Omega.{arith}
 use lib.ListN.{length, get_or, replicate, length-map}
 use borrow.Author.Tests.{le-leb}
-use Rattle.meaning.specs.Answers.{Answer, is, nothing, refused}
+use Rattle.meaning.specs.Answers.{Answer, is, nothing}
 use Rattle.meaning.specs.String.{string}
-use Rattle.meaning.specs.Child.{Node, IsNode, root, child}
+use Rattle.meaning.specs.Child.{Node, root, child}
 use Rattle.meaning.specs.Sibling.{next}
-use Rattle.meaning.specs.Walk.{plain, back, onward, visits, Visit, Told, tell, Tells, visited, AnswersAre}
+use Rattle.meaning.specs.Walk.{plain, back, onward, visits, tell, Tells, visited}
 use Rattle.meaning.specs.Areas.{Rooms, filled}
 use Rattle.meaning.specs.Refusals.{Accepted}
 use Rattle.meaning.specs.Build.{Tree, Lent, tree_of, lent_of}
-use Rattle.meaning.specs.Questions.{first_child, next_sibling, edge_of}
+use Rattle.meaning.specs.Questions.{edge_of}
 use Rattle.meaning.specs.Walking.{Step, step_to, or_else, back_by, onward_by, told_first, walk_by, WalkRooms, Walked, walk_refusal, walked_by, walking}
 use Rattle.meaning.proofs.If.{if_none}
 use Rattle.meaning.proofs.Accepted.{check_true, done, and, all_none}
-use Rattle.meaning.proofs.String.{string_walk}
-use Rattle.meaning.proofs.Nodes.{next_node}
 use Rattle.meaning.proofs.Walk.{back_some, back_none, onward_child, onward_back, visits_more, visits_end, walk_from, visited_tells}
 use Rattle.meaning.proofs.WalkBy.{AllNodes, onward_nodes}
 use Rattle.meaning.proofs.Kin.{root_kin}

@@ -2,16 +2,16 @@
 use mathlib.Core.Path.{◌≡◌, refl, sym, ap, ◌∙◌, subst}
 use mathlib.Core.Bool.{Bool, true, false, not}
 use mathlib.Core.Logic.{◌⊎◌}
-use mathlib.Core.List.{List, map}
+use mathlib.Core.List.{map}
 use Prim.Native.Nat.{ℕ, zero, suc, ◌+◌, ◌-◌, ◌^◌, ◌≤◌, ◌<◌}
 use native.Mathlib.Nat.{zero-add}
 use native.Mathlib.Omega.{arith}
-use lib.Dec.{lit<, eqb}
+use lib.Dec.{eqb}
 use lib.ListN.{length, get_or}
 use lib.Seq.{ext_get_or}
 use borrow.Author.Tests.{lt-ltb, le-ltb, eqb-true}
 use Rattle.meaning.specs.Answers.{Answer, is, nothing, refused, place, close, provided}
-use Rattle.meaning.specs.Bits.{opens, tab, bit, as_bit, with_bit}
+use Rattle.meaning.specs.Bits.{bit, as_bit, with_bit}
 use Rattle.meaning.specs.Count.{count}
 use Rattle.meaning.specs.Plain.{side, plain_rank}
 use Rattle.meaning.specs.Match.{close_of}

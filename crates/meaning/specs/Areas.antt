@@ -1,5 +1,5 @@
 -- Lent areas: what a build writes into them, and what they hold by the record of counts.
-use Rattle.std.specs.Prelude.{true, false, List, [], ◌∷◌, ◌++◌, map, ℕ, ◌+◌, ◌*◌, ◌-◌, ◌/◌, leb, length, take, drop, replicate}
+use Rattle.std.specs.Prelude.{true, false, List, [], ◌∷◌, ◌++◌, map, ℕ, ◌*◌, ◌-◌, ◌/◌, leb, length, take, drop, replicate}
 use Rattle.meaning.specs.Bits.{bits_of, words_of, word_count}
 use Rattle.meaning.specs.Dictionary.{Dict}
 use Rattle.meaning.specs.Family.{Level, no_dict}

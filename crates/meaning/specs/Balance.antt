@@ -2,12 +2,12 @@
 use Rattle.std.specs.Prelude.{◌≡◌, Bool, true, false, List, [], ◌∷◌, ◌++◌, ℕ, suc, ◌<◌, length, get_or}
 use Rattle.std.proofs.Math.Seq.{slice}
 
--- balanced: empty, or an open, a balanced string, a close, and a balanced string (`balanced-exactly`: the walk from depth 0 to 0, never below)
+-- balanced: empty, or an open, a balanced string, a close, and a balanced string (`balanced_exactly`: the walk from depth 0 to 0, never below)
 pub data Balanced : List Bool → Type 0 where
   empty : Balanced []
   pair : {a b : List Bool} → Balanced a → Balanced b → Balanced (true ∷ a ++ false ∷ b)
 
--- an open at p and a close at c, and between them a balanced string (`encloses-exactly`: the same as IsClose)
+-- an open at p and a close at c, and between them a balanced string (`encloses_exactly`: the same as IsClose)
 pub record Encloses (l : List Bool) (p c : ℕ) : Type 0 where
   pub after : p < c
   pub inside : c < length l

@@ -1,5 +1,5 @@
 -- The bit string: words with a length. "Bits past the length read as zeros, but the zero questions do not count them".
-use Rattle.std.specs.Prelude.{Bool, true, false, ◌&&◌, List, [], ◌∷◌, ℕ, zero, suc, ◌+◌, ◌-◌, ◌*◌, ◌^◌, ltb, leb, length}
+use Rattle.std.specs.Prelude.{Bool, true, false, ◌&&◌, List, [], ◌∷◌, ℕ, zero, suc, ◌-◌, ◌*◌, ◌^◌, ltb, leb, length}
 use Rattle.meaning.specs.Answers.{Answer, is, nothing, refused, Refusal, place, room, broken, provided}
 use Rattle.meaning.specs.Bits.{as_bit, bit_at, bits_of, stored, cleared, word_count}
 use Rattle.meaning.specs.Plain.{side, plain_rank, plain_select, plain_pred, plain_succ}
@@ -81,7 +81,7 @@ met_at (refused r) = refused r
 unfoldable pub one_from : List ℕ → ℕ → ℕ → Answer Met
 one_from ws n i = met_at (string_succ true ws n i)
 
--- the ones that it meets in at most k steps from place i (`one-indices`: all ones of the string, in order; no contract reaches this list)
+-- the ones that it meets in at most k steps from place i (`one_indices_lem`: all ones of the string, in order; no contract reaches this list)
 unfoldable pub one_indices : List ℕ → ℕ → ℕ → ℕ → List ℕ
 one_indices ws n zero i = []
 one_indices ws n (suc k) i = elim (one_from ws n i) [ is m ↦ m.place ∷ one_indices ws n k m.next | nothing ↦ [] | refused r ↦ [] ]

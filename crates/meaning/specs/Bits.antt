@@ -1,5 +1,5 @@
 -- Bit strings. "Open is 1, close is 0"; "bit i is bit i mod 64 of word i / 64, lowest first".
-use Rattle.std.specs.Prelude.{Bool, true, false, List, [], ◌∷◌, ℕ, zero, suc, ◌+◌, ◌-◌, ◌*◌, ◌/◌, ◌%◌, ◌^◌, eqb, length, get_or, set, take, drop}
+use Rattle.std.specs.Prelude.{Bool, true, false, List, [], ◌∷◌, ℕ, zero, suc, ◌+◌, ◌*◌, ◌/◌, ◌%◌, ◌^◌, eqb, length, get_or, set, take, drop}
 
 -- how many opens, how many closes
 unfoldable pub opens : List Bool → ℕ

@@ -1,4 +1,4 @@
--- How much of each area suffices for every accepted list of n nodes, so that a caller can lend once for the largest pass (`enough-room`). No contract
+-- How much of each area suffices for every accepted list of n nodes, so that a caller can lend once for the largest pass (`enough_room`). No contract
 -- has these; the C header gives them.
 use Rattle.std.specs.Prelude.{ℕ, zero, suc, ◌+◌, ◌*◌, ◌-◌, ◌/◌}
 use Rattle.meaning.specs.Bits.{word_count}

@@ -1,7 +1,7 @@
 -- Close of an open p. By steps; none is BROKEN.
 use Rattle.std.specs.Prelude.{Bool, true, false, ◌&&◌, List, [], ◌∷◌, ℕ, zero, suc, ◌+◌, ◌*◌, ◌-◌, ◌/◌, ◌%◌, ltb, leb, eqb, length, get_or}
 use Rattle.std.proofs.Math.Option.{Option, none, some}
-use Rattle.meaning.specs.Answers.{Answer, is, nothing, refused, broken}
+use Rattle.meaning.specs.Answers.{Answer, is, nothing, refused}
 use Rattle.meaning.specs.Dictionary.{Dict, rank_of, select_of, pred_of}
 use Rattle.meaning.specs.Family.{Level}
 

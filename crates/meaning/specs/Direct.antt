@@ -135,7 +135,7 @@ dict_pred e a x = if_fit e a (pred_of (dict_in e a) x)
 unfoldable pub dict_succ : Entries → Dict → ℕ → Answer ℕ
 dict_succ e a x = if_fit e a (succ_of (dict_in e a) x)
 
--- a build that is not refused, check by check (`dict-exactly`)
+-- a build that is not refused, check by check (`dict_exactly`)
 pub record DictAccepted (ws : List ℕ) (n : ℕ) (rooms : DictRooms) : Type 0 where
   pub inside : n ≤ 64 * length ws
   pub few : n ≤ most_bits

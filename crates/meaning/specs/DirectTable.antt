@@ -1,6 +1,6 @@
 -- A dictionary built directly, either side of each of its edges, proved by computing.
 use Rattle.std.specs.Prelude.{◌≡◌, refl, List, [], ◌∷◌, ◌++◌, ℕ, replicate}
-use Rattle.std.proofs.Math.Option.{none, some}
+use Rattle.std.proofs.Math.Option.{none}
 use Rattle.meaning.specs.Answers.{is, nothing, refused, broken}
 use Rattle.meaning.specs.Dictionary.{Dict}
 use Rattle.meaning.specs.Refusals.{refuse}

@@ -1,5 +1,5 @@
 -- Growth. It "takes a level and a label for the list's end and works from the bit string alone".
-use Rattle.std.specs.Prelude.{Bool, true, false, ◌&&◌, List, [], ◌∷◌, ◌++◌, ℕ, zero, suc, pred, ◌+◌, ◌*◌, ◌/◌, leb, eqb, length, drop, set, replicate}
+use Rattle.std.specs.Prelude.{Bool, true, false, ◌&&◌, List, [], ◌∷◌, ◌++◌, ℕ, zero, suc, pred, ◌+◌, ◌*◌, leb, eqb, length, drop, set, replicate}
 use Rattle.std.proofs.Math.Option.{Option, none, some}
 use Rattle.meaning.specs.Answers.{Refusal, is, refused}
 use Rattle.meaning.specs.Bits.{bits_of, word_count}
@@ -16,7 +16,7 @@ pub data Rest : ℕ → List Bool → Type 0 where
   node_opens : {d : ℕ} {l : List Bool} → Rest (suc d) l → Rest d (true ∷ l)
   node_closes : {d : ℕ} {l : List Bool} → Rest d l → Rest (suc d) (false ∷ l)
 
--- the whole string (`one-root-test`: what `one_root` tests)
+-- the whole string (`one_root_test`: what `one_root` tests)
 pub data OneRoot : List Bool → Type 0 where
   root_opens : {l : List Bool} → Rest 0 l → OneRoot (true ∷ l)
 

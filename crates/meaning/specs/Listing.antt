@@ -66,14 +66,14 @@ unfoldable pub AllFit : List Entry → Type 0
 AllFit [] = Unit {0}
 AllFit (e ∷ es) = EntryFits e × AllFit es
 
--- an input of at most k lines ("at most 512") that says the list es (`says-exactly`: what `text_of` reads)
+-- an input of at most k lines ("at most 512") that says the list es (`says_exactly`: what `text_of` reads)
 pub record Says (k : ℕ) (s : List ℕ) (es : List Entry) : Type 0 where
   pub few : length es ≤ k
   pub fit : AllFit es
   pub text : s ≡ list_text es
 
 -- "the first such line, from 1": the lines before it say a list, there is more, and it starts with no entry's line, or is one too many
--- (`bad-exactly`)
+-- (`bad_exactly`)
 pub record BadLine (k : ℕ) (s : List ℕ) (n : ℕ) : Type 0 where
   pub good : List Entry
   pub rest : List ℕ
@@ -195,7 +195,7 @@ id_at_level vs v j = elim (ltb j (length vs) && eqb (get_or vs j 0) v) [ true �
 unfoldable pub sibling_id : List ℕ → ℕ → ℕ
 sibling_id vs k = id_at_level vs (get_or vs k 0) (suc k + below vs k)
 
--- the id that an answer to a sibling question has (`sibling-id`; of the proofs alone)
+-- the id that an answer to a sibling question has (`sibling_id_lem`; of the proofs alone)
 unfoldable pub id_of : Option Node → ℕ
 id_of none = 0
 id_of (some n) = n.id
@@ -216,7 +216,7 @@ built none levels labels = listing levels labels
 built (some r) levels labels = refusal_line r
 
 -- the areas that no list of at most 512 nodes overruns: it has at most 17 words, and flags at most 62 places in 5 blocks
--- (`only-level`: then LEVEL alone refuses)
+-- (`only_level`: then LEVEL alone refuses)
 pub record Enough (rooms : Rooms) : Type 0 where
   pub words : 18 ≤ rooms.words
   pub bytes : 67 ≤ rooms.bytes

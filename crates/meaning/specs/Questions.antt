@@ -6,7 +6,7 @@ use Rattle.meaning.specs.Bits.{opens, as_bit, word_count}
 use Rattle.meaning.specs.Close.{close_at}
 use Rattle.meaning.specs.Child.{Node, child}
 use Rattle.meaning.specs.Sibling.{sibling}
-use Rattle.meaning.specs.Walk.{lowest}
+use Rattle.meaning.specs.Walk.{Answers, lowest}
 use Rattle.meaning.specs.Size.{sum}
 use Rattle.meaning.specs.Leaves.{leaf_count}
 use Rattle.meaning.specs.Areas.{Counts}
@@ -83,7 +83,11 @@ heard (is e) = some e.node
 heard nothing = none
 heard (refused r) = none
 
--- the edge of a node of an accepted list with labels bs (`first-child`, `next-sibling`; of theorems alone)
+-- the answers that a walk goes by
+abbrev pub asking : Tree → Lent → Answers
+asking t a = record { kid = λ n. heard (first_child t a n); sib = λ n. heard (next_sibling t a n) }
+
+-- the edge of a node of an accepted list with labels bs (`first_child_lem`, `next_sibling_lem`; of theorems alone)
 unfoldable pub edge_of : List ℕ → Option Node → Answer Edge
 edge_of bs none = nothing
 edge_of bs (some n) = edge n (get_or bs (pred n.id) 0)

@@ -23,7 +23,7 @@ unfoldable pub full_block : ℕ → ℕ → List Bool → Option ℕ
 full_block zero b f = none
 full_block (suc k) b f = elim (eqb (opens (take 256 f)) 256) [ true ↦ some b | false ↦ full_block k (suc b) (drop 256 f) ]
 
--- the block that it finds: 256 ones, and fewer in each before it (`full-exactly`)
+-- the block that it finds: 256 ones, and fewer in each before it (`full_exactly`)
 pub record LowestFull (f : List Bool) (b : ℕ) : Type 0 where
   pub full : opens (take 256 (drop (256 * b) f)) ≡ 256
   pub lower : (i : ℕ) → i < b → opens (take 256 (drop (256 * i) f)) < 256
@@ -43,7 +43,7 @@ full_from (suc k) v l =
     ]
 
 -- what it says: "5 (lowest level, lowest block)". Level v flags pioneer string v - 1; each lower level has a family without a
--- full block (`full-level`)
+-- full block (`full_level`)
 pub record LowestLevel (l : List Bool) (v b : ℕ) : Type 0 where
   pub under : ℕ
   pub level : v ≡ suc under
@@ -83,7 +83,7 @@ checks levels rooms =
 unfoldable pub refusal : List ℕ → List ℕ → Rooms → Option Refusal
 refusal levels labels rooms = first_of (check (eqb (length levels) (length labels)) 1 (0 ∷ []) ∷ checks levels rooms)
 
--- a build that is not refused, check by check (`accepted-exactly`; `accepted-flags`: with FULL in 01's words)
+-- a build that is not refused, check by check (`accepted_exactly`; `accepted_flags`: with FULL in 01's words)
 pub record Accepted (levels labels : List ℕ) (rooms : Rooms) : Type 0 where
   pub same : length levels ≡ length labels
   pub few : length levels ≤ greatest

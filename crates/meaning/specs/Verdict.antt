@@ -30,7 +30,7 @@ pub record Sound (vs : List ℕ) (rooms : Rooms) : Type 0 where
   pub scratch : 2 * length vs + 2 ≤ rooms.scratch
   pub narrow : NoneFull (string vs)
 
--- the outcomes from 2 on, which growth shares; there is no 6 (`verdict-exactly`: those of `checks`)
+-- the outcomes from 2 on, which growth shares; there is no 6 (`verdict_exactly`: those of `checks`)
 pub data Verdict (vs : List ℕ) (rooms : Rooms) : Option Refusal → Type 0 where
   many : greatest < length vs → Verdict vs rooms (refuse 2 (length vs ∷ []))
   level : length vs ≤ greatest → (k : ℕ) → offending vs ≡ some k → Verdict vs rooms (refuse 3 (k ∷ []))
@@ -48,7 +48,7 @@ pub data Verdict (vs : List ℕ) (rooms : Rooms) : Option Refusal → Type 0 whe
   accepted : Sound vs rooms → words_needed vs ≤ rooms.words → bytes_needed vs ≤ rooms.bytes → middle_needed vs ≤ rooms.middle
       → large_needed vs ≤ rooms.large → length vs ≤ rooms.labels → Verdict vs rooms none
 
--- and with LENGTHS before them (`build-verdict`: those of `refusal`)
+-- and with LENGTHS before them (`build_verdict`: those of `refusal`)
 pub data BuildVerdict (vs bs : List ℕ) (rooms : Rooms) : Option Refusal → Type 0 where
   lengths : ¬ (length vs ≡ length bs) → BuildVerdict vs bs rooms (refuse 1 (0 ∷ []))
   checked : {o : Option Refusal} → length vs ≡ length bs → Verdict vs rooms o → BuildVerdict vs bs rooms o

@@ -1,5 +1,5 @@
 -- The walk as an operation: by the two questions, into lent lists of levels and labels, the way back in scratch.
-use Rattle.std.specs.Prelude.{Bool, List, [], ◌∷◌, map, ℕ, zero, suc, pred, ◌+◌, ◌*◌, ◌^◌, ltb, leb, length, replicate}
+use Rattle.std.specs.Prelude.{List, [], ◌∷◌, map, ℕ, zero, suc, pred, ◌+◌, ◌*◌, ◌^◌, ltb, leb, length, replicate}
 use Rattle.std.proofs.Math.Option.{Option, none, some}
 use Rattle.meaning.specs.Answers.{Refusal, Answer, is, nothing, refused, broken, provided}
 use Rattle.meaning.specs.Child.{Node, root}

@@ -1,5 +1,5 @@
 -- One word of w bits: get, set, pop_count, rank, select, pred, succ, get_close.
-use Rattle.std.specs.Prelude.{Bool, true, false, List, ℕ, ltb, eqb, length}
+use Rattle.std.specs.Prelude.{Bool, true, false, List, ℕ, ltb, eqb}
 use Rattle.meaning.specs.Answers.{Answer, is, nothing, place, close, provided}
 use Rattle.meaning.specs.Bits.{opens, tab, bit, as_bit, with_bit}
 use Rattle.meaning.specs.Plain.{side, plain_rank, plain_select, plain_pred, plain_succ}

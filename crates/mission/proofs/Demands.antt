@@ -14,7 +14,7 @@ use Rattle.meaning.specs.Refusals.{Accepted}
 use Rattle.meaning.specs.Build.{Lent, Tree, rooms_of}
 use Rattle.meaning.specs.Change.{Question, child_of, sibling_of}
 use Rattle.meaning.specs.Questions.{close_in, first_child, next_sibling, label_in, leaves_below, nodes_in, bytes_held}
-use Rattle.meaning.specs.Demands.{Answered, edge_in, Grows}
+use Rattle.meaning.specs.Demands.{Answered, AnsweredLabels, edge_in, GrowsLabels}
 use Rattle.meaning.proofs.Enclosed.{encloses_exactly}
 use Rattle.meaning.proofs.Kin.{node_of_lem}
 use Rattle.record.specs.Record.{tree_in}
@@ -36,8 +36,8 @@ use Rattle.walk.proofs.Agree.{walks_agree}
 use Rattle.balanced_parens.specs.Contract.{Builds, GrowsTo}
 use Rattle.balanced_parens.specs.Demands.{tree_at}
 use Rattle.balanced_parens.specs.declared.answer.Built.{Built}
-use Rattle.balanced_parens.proofs.Demands.{built_made, tree_answers, grow_builds, growth_equal, growth_demand}
-use Rattle.mission.specs.Contracts.{catalogue, node_in, FirstChild, NextSibling, Asks, Label, LeafCount}
+use Rattle.balanced_parens.proofs.Demands.{built_made, tree_labels, grow_builds, growth_equal, growth_labels}
+use Rattle.mission.specs.Allowed.{catalogue, node_in, FirstChild, NextSibling, Asks, Label, LeafCount}
 use Rattle.mission.specs.Demands.{SecondDemand, ThirdDemand}
 use Rattle.mission.proofs.Lent.{close_lent, walk_lent, label_lent, leaves_lent, nodes_lent, size_lent}
 
@@ -47,8 +47,11 @@ same_tree : (s t : Tree) → ◌≡◌ {A = Answer Tree} (is s) (is t) → s ≡
 same_tree s t e = cc
 
 module _ (vs bs : List ℕ) (a z : Lent) (r : Built) (b : Builds vs bs a z r) (acc : Accepted vs bs (rooms_of a)) where
+  abbrev with_labels : AnsweredLabels vs bs (tree_at r z)
+  with_labels = tree_labels vs bs a z r b acc
+
   abbrev own : Answered vs bs (tree_at r z)
-  own = tree_answers vs bs a z r b acc
+  own = with_labels.answered
 
   tree : tree_in r.counts ≡ own.tree
   tree = same_tree (tree_in r.counts) own.tree own.built
@@ -94,8 +97,8 @@ module _ (vs bs : List ℕ) (a z : Lent) (r : Built) (b : Builds vs bs a z r) (a
         root_child = λ x h f. child_is root x _ f (own.root_child h);
         root_no_child = λ x h f. child_is root x linked.Nothing f (own.root_no_child h);
         root_no_sibling = λ x f. sibling_is root x linked.Nothing f own.root_no_sibling;
-        label = λ k x h f. label_is (node_at vs k) x (labelled.Is (get_or bs k 0)) f (own.label k h);
-        root_label = λ x f. label_is root x labelled.Nothing f own.root_label;
+        label = λ k x h f. label_is (node_at vs k) x (labelled.Is (get_or bs k 0)) f (with_labels.label k h);
+        root_label = λ x f. label_is root x labelled.Nothing f with_labels.root_label;
         nodes = λ x f. numbers_agree x (number.Is (length vs)) (of_tree nodes_in nodes_lent (said_number x) (is (length vs)) f own.nodes);
         size = λ x f. numbers_agree x _ (of_tree bytes_held size_lent (said_number x) _ f own.size);
         leaves = λ k x h f. leaves_are (node_at vs k) x _ f (own.leaves k h);
@@ -117,8 +120,8 @@ module _ (vs bs : List ℕ) (v b : ℕ) (a z₁ : Lent) (r₁ : Built) (acc : Ac
   abbrev same : (r₂ ≡ r₃) × (z₂ ≡ z₃)
   same = growth_equal vs bs v b a z₁ r₁ acc p₁ z₂ r₂ p₂ a' z₃ r₃ e p₃ acc⁺
 
-  abbrev g : Grows vs bs v b (tree_at r₁ z₁) (tree_at r₂ z₂) (tree_at r₃ z₃)
-  g = growth_demand vs bs v b a z₁ r₁ acc p₁ z₂ r₂ p₂ a' z₃ r₃ e p₃ acc⁺
+  abbrev g : GrowsLabels vs bs v b (tree_at r₁ z₁) (tree_at r₂ z₂) (tree_at r₃ z₃)
+  g = growth_labels vs bs v b a z₁ r₁ acc p₁ z₂ r₂ p₂ a' z₃ r₃ e p₃ acc⁺
 
   old : tree_in r₁.counts ≡ g.old
   old = same_tree (tree_in r₁.counts) g.old g.was
@@ -136,7 +139,7 @@ module _ (vs bs : List ℕ) (v b : ℕ) (a z₁ : Lent) (r₁ : Built) (acc : Ac
   label_same n i = ap (λ t. label_in t z₂ n) new ∙ g.labels n i ∙ sym (ap (λ t. label_in t z₁ n) old)
 
   own_before : (k : ℕ) → k < length vs → label_in (tree_in r₁.counts) z₁ (node_at vs k) ≡ is (get_or bs k 0)
-  own_before k h = ap (λ t. label_in t z₁ (node_at vs k)) (tree vs bs a z₁ r₁ p₁ acc) ∙ (own vs bs a z₁ r₁ p₁ acc).label k h
+  own_before k h = ap (λ t. label_in t z₁ (node_at vs k)) (tree vs bs a z₁ r₁ p₁ acc) ∙ (with_labels vs bs a z₁ r₁ p₁ acc).label k h
 
   -- Demand 3
   pub third_demand : ThirdDemand vs bs v b z₁ z₂ z₃ r₁ r₂ r₃

@@ -2,14 +2,14 @@
 use mathlib.Core.Path.{◌≡◌, refl}
 use mathlib.Core.Option.{Option, none, some}
 use mathlib.Core.Logic.{inl, inr}
-use mathlib.Core.List.{List, [], ◌∷◌}
+use mathlib.Core.List.{List}
 use Prim.Native.Nat.{ℕ, ◌+◌, ◌/◌}
-use Rattle.meaning.specs.Answers.{Refusal, is, refused, broken}
+use Rattle.meaning.specs.Answers.{Refusal, is, refused}
 use Rattle.meaning.specs.Bits.{bits_of}
 use Rattle.meaning.specs.Dictionary.{Dict}
 use Rattle.meaning.specs.Refusals.{full_block}
 use Rattle.meaning.specs.Direct.{DictRooms, Entries, DictAfter, dict_refusal, dict_rooms, dict_zeroed, dict_plan, dict_write, dict_build}
-use Rattle.sparse_one_nnd.specs.Said.{said_count, said_found, many, full}
+use Rattle.sparse_one_nnd.specs.Said.{said_count, said_found}
 use Rattle.sparse_one_nnd.specs.declared.Count.{Count}
 use Rattle.sparse_one_nnd.specs.declared.Count.TheVariants as count
 use Rattle.sparse_one_nnd.specs.declared.Found.{Found}
@@ -17,7 +17,7 @@ use Rattle.sparse_one_nnd.specs.declared.Found.TheVariants as found
 use Rattle.mission.specs.Numbered as numbered
 use Rattle.mission.specs.Numbered.{Numbered}
 use Rattle.mission.specs.FirstDemand.{Told, value, none_found, Broken, OnPlan}
-use Rattle.mission.proofs.Told.{Given, given, refused_told, option_told, only_broken, Sound, answered, unmade_sound}
+use Rattle.mission.proofs.Told.{given, refused_told, option_told, only_broken, Sound, answered, unmade_sound}
 use Rattle.mission.proofs.Told.{Refuses, passes, refuses, no_more, then, first_refuses, check_refuses, full_at_refuses}
 
 -- its questions have no other refusal

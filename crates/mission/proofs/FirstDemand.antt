@@ -5,7 +5,7 @@ use Rattle.meaning.specs.Answers.{Refusal, Answer}
 use mathlib.Core.List.{List}
 use Prim.Native.Nat.{ℕ}
 use Rattle.meaning.specs.BitString.{Edited, edited}
-use Rattle.meaning.specs.Build.{Lent, rooms_of}
+use Rattle.meaning.specs.Build.{rooms_of}
 use Rattle.meaning.specs.Dictionary.{Dict}
 use Rattle.meaning.specs.Direct.{Entries, DictAfter}
 use Rattle.record.specs.Record.{tree_in}
@@ -15,7 +15,7 @@ use Rattle.sparse_one_nnd.specs.Said.{entries_in, after}
 use Rattle.balanced_parens.specs.Said.{refusal_of}
 use Rattle.balanced_parens.proofs.Demands.{build_answers}
 use Rattle.balanced_parens.proofs.AnyGrowth.{growth_answers}
-use Rattle.mission.specs.FirstDemand.{FirstDemand, Told, Question, Change, six_in, catalogue_in, tree_at, asked_at, dict_in, rooms_in}
+use Rattle.mission.specs.FirstDemand.{FirstDemand, Told, Question, Change, six_in, catalogue_in, tree_at, asked_at, dict_lent, rooms_in}
 use Rattle.mission.proofs.Told.{given, told_as, Sound}
 use Rattle.mission.proofs.TreeTold.{nodes_told, is_empty_told, byte_size_told, bit_told, close_told, first_child_told, next_sibling_told, label_told, leaf_count_told}
 use Rattle.mission.proofs.TreeTold.{WalkSound, walk_sound}
@@ -101,10 +101,10 @@ first_demand =
       string_set_lem = record { asks_nothing = λ κs a. tt; ends = λ κs a x w q. edit q (set_sound a.0.now a.1.0 a.1.1.0 a.1.1.1.0) };
       string_push_lem = record { asks_nothing = λ κs a. tt; ends = λ κs a x w q. edit q (push_sound a.0.now a.1.0 a.1.1.0) };
       string_resize_lem = record { asks_nothing = λ κs a. tt; ends = λ κs a x w q. edit q (resize_sound a.0.now a.1.0 a.1.1.0) };
-      dict_build_lem = record { asks_nothing = λ κs a. tt; ends = λ κs a x w q. made q (build_sound a.0.now a.1.0 (rooms_in (dict_in a.1.1))) };
+      dict_build_lem = record { asks_nothing = λ κs a. tt; ends = λ κs a x w q. made q (build_sound a.0.now a.1.0 (rooms_in (dict_lent a.1.1))) };
       dict_write_lem = record {
         asks_nothing = λ κs a. tt;
-        ends = λ κs a x w q. made q (write_sound a.0.now a.1.0 (entries_in a.1.1.0) (dict_in a.1.1.1));
+        ends = λ κs a x w q. made q (write_sound a.0.now a.1.0 (entries_in a.1.1.0) (dict_lent a.1.1.1));
       };
       dict_plan_lem = record { asks_nothing = λ κs a. tt; ends = λ κs a x w q. question q (plan_told a.0.now a.1.0) };
       dict_rank_one = record { asks_nothing = λ κs a. tt; ends = λ κs a x w q. heard q (count_told x) };

@@ -13,7 +13,7 @@ use Rattle.meaning.specs.Close.{close_at}
 use Rattle.meaning.specs.Questions.{counts_fit, at_bit, close_in, node_refusal, label_of, label_in, leaves_by, leaves_below, nodes_in, bytes_held}
 use Rattle.meaning.specs.Walking.{Step, or_else, back_by, onward_by, told_first, telling, walk_by, WalkRooms, walk_refusal, unwalked, walked_by, walking}
 use Rattle.questions.proofs.Built.{child_lent, sibling_lent}
-use Rattle.mission.specs.Contracts.{catalogue}
+use Rattle.mission.specs.Allowed.{catalogue}
 
 module _ (t : Tree) (a : Lent) where
   pub close_lent : (p : ℕ) → close_in t (catalogue a) p ≡ close_in t a p

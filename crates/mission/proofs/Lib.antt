@@ -1,7 +1,8 @@
+pub mod Lent
+pub mod Mission
 pub mod Demands
 pub mod DictTold
 pub mod FirstDemand
-pub mod Lent
 pub mod MadeTold
 pub mod StringTold
 pub mod Told

@@ -1,15 +1,15 @@
 -- What the string may refuse, and what its words are then.
-use mathlib.Core.Path.{◌≡◌, refl}
+use mathlib.Core.Path.{refl}
 use mathlib.Core.Bool.{Bool, true, false, ◌&&◌}
 use mathlib.Core.Logic.{inl, inr}
 use mathlib.Core.List.{List, [], ◌∷◌}
 use Prim.Native.Nat.{ℕ, zero, suc, ◌*◌, ◌^◌}
 use lib.Dec.{ltb}
 use lib.ListN.{take, drop}
-use Rattle.meaning.specs.Answers.{Refusal, Answer, is, place, room, broken}
+use Rattle.meaning.specs.Answers.{Refusal, Answer, place, room, broken}
 use Rattle.meaning.specs.Bits.{bits_of, places, word_count}
 use Rattle.meaning.specs.Plain.{side, item, last, plain_select, plain_pred, plain_succ}
-use Rattle.meaning.specs.BitString.{Edited, edited, edit_if, held, if_held, before_end, string_get, string_rank, string_select, string_pred, string_succ, string_size}
+use Rattle.meaning.specs.BitString.{Edited, edit_if, held, if_held, before_end, string_get, string_rank, string_select, string_pred, string_succ, string_size}
 use Rattle.meaning.specs.BitString.{string_set, string_push, string_resize, met_at, one_from}
 use Rattle.mission.specs.Numbered as numbered
 use Rattle.mission.specs.FirstDemand.{Told, value, none_found, refusal_of, OneOf, Broken}

@@ -1,13 +1,13 @@
 -- What the tree's questions and the walk may refuse, whatever the areas hold.
 use mathlib.Core.Path.{◌≡◌, refl}
-use mathlib.Core.Bool.{true, false}
+use mathlib.Core.Bool.{false}
 use mathlib.Core.Option.{Option, none, some}
 use mathlib.Core.Logic.{inl, inr}
 use mathlib.Core.List.{List, [], ◌∷◌}
 use Prim.Native.Nat.{ℕ, zero, suc, pred, ◌^◌}
 use lib.Dec.{ltb, eqb}
 use lib.ListN.{length, get_or, replicate}
-use Rattle.meaning.specs.Answers.{Refusal, Answer, is, nothing, refused, place, close, room, broken}
+use Rattle.meaning.specs.Answers.{Refusal, Answer, is, refused, place, close, room, broken}
 use Rattle.meaning.specs.Child.{Node, child, root}
 use Rattle.meaning.specs.Sibling.{sibling}
 use Rattle.meaning.specs.Walk as walk

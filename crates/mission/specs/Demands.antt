@@ -26,7 +26,7 @@ use Rattle.walk.specs.declared.Walked.{Walked}
 use Rattle.walk.specs.declared.Walked.TheVariants as walked
 use Rattle.balanced_parens.specs.declared.answer.Built.{Built}
 use Rattle.balanced_parens.specs.declared.answer.Verdict.TheVariants as verdict
-use Rattle.mission.specs.Contracts.{node_in, GetClose, FirstChild, NextSibling, Asks, Label, LeafCount, Nodes, ByteSize, Walks}
+use Rattle.mission.specs.Allowed.{node_in, GetClose, FirstChild, NextSibling, Asks, Label, LeafCount, Nodes, ByteSize, Walks}
 
 -- ---- Demand 1: `BuildAnswers` and `GrowthAnswers` in balanced_parens/specs/Demands.antt
 

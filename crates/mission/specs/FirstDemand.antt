@@ -7,7 +7,7 @@ use Rattle.std.proofs.Math.Option.{some}
 use contract.Lifetimes.{Lfts}
 use borrow.Fn.Kind.{ParamKind, ResultKind}
 use borrow.Fn.Kinds.{In, Out, Dens, res_t, ended_of}
-use Rattle.std.specs.Borrow.{Bor}
+use Rattle.std.specs.Borrow.{Bor, MutBor}
 use denote.Triple.Clauses.{Lasts, at_exit}
 use Rattle.meaning.specs.Answers.{Refusal, Answer, is, nothing, refused, place, close, room, broken}
 use Rattle.meaning.specs.Child as child
@@ -84,10 +84,13 @@ Catalogue X = Bor (List ℕ) × (Bor (List ℕ) × (Bor (List ℕ) × (Bor (List
 abbrev pub catalogue_in : {X : Type 0} → Catalogue X → Lent
 catalogue_in a = lent_at a.0.now a.1.0.now a.1.1.0.now a.1.1.1.0.now a.1.1.1.1.0.now
 
--- all six areas
-abbrev pub six_in : {X : Type 0} → Catalogue (Bor (List ℕ) × X) → Lent
-six_in a =
-    areas.lent_at a.0.now a.1.0.now a.1.1.0.now a.1.1.1.0.now a.1.1.1.1.0.now a.1.1.1.1.1.0.now
+-- all six areas, lent to be written
+abbrev pub Six : Type 0 → Type 0
+Six X =
+    MutBor (List ℕ) × (MutBor (List ℕ) × (MutBor (List ℕ) × (MutBor (List ℕ) × (MutBor (List ℕ) × (MutBor (List ℕ) × X)))))
+
+abbrev pub six_in : {X : Type 0} → Six X → Lent
+six_in a = areas.lent_at a.0.now a.1.0.now a.1.1.0.now a.1.1.1.0.now a.1.1.1.1.0.now a.1.1.1.1.1.0.now
 
 -- the tree by the record of counts behind the catalogue areas
 abbrev pub tree_at : {X : Type 0} → Catalogue (Counts × X) → Tree
@@ -100,6 +103,10 @@ asked_at a = a.1.1.1.1.1.1.0
 -- areas 1 to 3
 abbrev pub dict_in : {X : Type 0} → Bor (List ℕ) × (Bor (List ℕ) × (Bor (List ℕ) × X)) → Dict
 dict_in a = dict_at a.0.now a.1.0.now a.1.1.0.now
+
+-- the same, lent to be written
+abbrev pub dict_lent : {X : Type 0} → MutBor (List ℕ) × (MutBor (List ℕ) × (MutBor (List ℕ) × X)) → Dict
+dict_lent a = dict_at a.0.now a.1.0.now a.1.1.0.now
 
 -- their lengths
 abbrev pub rooms_in : Dict → DictRooms
@@ -201,13 +208,13 @@ pub record FirstDemand : Type 0 where
       Change (OneOf (room 0 ∷ broken ∷ [])) edited (string_resize a.0.now a.1.0 a.1.1.0) (said_done x) a.0.now e.0.now)
   -- ---- the dictionary: the words and the length, areas 1 to 3. "refused, its areas are zero" (01)
   pub dict_build_lem : Total dictionary.build.Kinds.ps dictionary.build.Kinds.r dictionary.build.Reads.Asked dictionary.build.Reads.Learnt (λ κs a x e.
-      let rooms : DictRooms = rooms_in (dict_in a.1.1) in
-      Change (λ r. dict_refusal a.0.now a.1.0 rooms ≡ some r) after (dict_build a.0.now a.1.0 rooms) (said_built x) (dict_zeroed rooms) (dict_in e.1.1))
+      let rooms : DictRooms = rooms_in (dict_lent a.1.1) in
+      Change (λ r. dict_refusal a.0.now a.1.0 rooms ≡ some r) after (dict_build a.0.now a.1.0 rooms) (said_built x) (dict_zeroed rooms) (dict_lent e.1.1))
   -- past as many entries as the third parameter counts; refused, the areas are as they stood
   pub dict_write_lem : Total dictionary.write.Kinds.ps dictionary.write.Kinds.r dictionary.write.Reads.Asked dictionary.write.Reads.Learnt (λ κs a x e.
       let from = entries_in a.1.1.0 in
-      Change (λ r. dict_refusal a.0.now a.1.0 (dict_rooms from (dict_in a.1.1.1)) ≡ some r) after
-      (dict_write a.0.now a.1.0 from (dict_in a.1.1.1)) (said_built x) (dict_in a.1.1.1) (dict_in e.1.1.1))
+      Change (λ r. dict_refusal a.0.now a.1.0 (dict_rooms from (dict_lent a.1.1.1)) ≡ some r) after
+      (dict_write a.0.now a.1.0 from (dict_lent a.1.1.1)) (said_built x) (dict_lent a.1.1.1) (dict_lent e.1.1.1))
   pub dict_plan_lem : Total dictionary.plan.Kinds.ps dictionary.plan.Kinds.r dictionary.plan.Reads.Asked dictionary.plan.Reads.Learnt (λ κs a x e.
       Question (OnPlan a.1.0) (dict_plan a.0.now a.1.0) (said_plan x) a.0.now e.0.now)
   -- the record of counts, areas 1 to 3, and the place or the rank

@@ -1,4 +1,5 @@
-pub mod Contracts
+pub mod Allowed
+pub mod Mission
 pub mod Demands
 pub mod FirstDemand
 pub mod Numbered

@@ -1,5 +1,5 @@
 -- "Refusal numbers" (01): which refusals there are, and what each carries.
-use Rattle.std.specs.Prelude.{List, [], ◌∷◌, ℕ, ◌≤◌}
+use Rattle.std.specs.Prelude.{[], ◌∷◌, ℕ, ◌≤◌}
 use Rattle.meaning.specs.Answers.{Refusal}
 
 -- "0 words, 1 count-and-offset bytes, 2 u16, 3 u64, 4 labels, 5 scratch" (01). The lists of levels and labels that a walk fills are no areas

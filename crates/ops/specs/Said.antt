@@ -1,5 +1,5 @@
 -- What each answer of a string says: 01's refusal number and what it carries, and its values.
-use Rattle.std.specs.Prelude.{Bool, true, false, ℕ, eqb}
+use Rattle.std.specs.Prelude.{Bool, false, ℕ, eqb}
 use Rattle.meaning.specs.Answers.{Answer, is, nothing, refused, place, room, broken}
 use Rattle.meaning.specs.Answers as answers
 use Rattle.meaning.specs.Bits.{as_bit}

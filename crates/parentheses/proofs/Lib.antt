@@ -8,4 +8,5 @@ pub mod Putting
 pub mod Written
 pub mod Standing
 pub mod Outcomes
+pub mod Agree
 pub mod Determined

@@ -1,12 +1,10 @@
 -- The ways out of `write_family`: a dictionary that has room is written.
-use mathlib.Core.Path.{◌≡◌, refl, sym, ap, ◌∙◌, subst}
+use mathlib.Core.Path.{◌≡◌, refl, sym, ap, ◌∙◌}
 use mathlib.Core.Bool.{Bool, false}
-use mathlib.Core.List.{List, [], ◌∷◌}
+use mathlib.Core.List.{List}
 use Prim.Native.Nat.{ℕ, ◌+◌, ◌-◌, ◌/◌, ◌≤◌}
 use native.Mathlib.Omega.{arith}
 use lib.ListN.{length, take, drop}
-use denote.Enum.Declared.{tag_of}
-use types.Run.{OneOf, miss}
 use Rattle.meaning.specs.Answers.{Answer, is, nothing, refused}
 use Rattle.meaning.specs.Bits.{bits_of}
 use Rattle.meaning.specs.Pioneers.{flags}
@@ -20,7 +18,6 @@ use Rattle.sparse_one_nnd.specs.Said.{entries_in, dict_at, said_built, after}
 use Rattle.sparse_one_nnd.specs.declared.SparseOneNnd.{SparseOneNnd}
 use Rattle.sparse_one_nnd.specs.declared.Built as sparse
 use Rattle.sparse_one_nnd.specs.declared.Built.TheVariants as built
-use Rattle.sparse_one_nnd.specs.contracts.Built as built_type
 use Rattle.pioneers.specs.Scratch.{text_of, with_flags, marking, mark_in}
 use Rattle.pioneers.specs.Keep.{keeping, compact_in}
 use Rattle.pioneers.specs.declared.flags.Layout.{Layout}
@@ -42,10 +39,6 @@ said_made built.Broken e q = absurd (let z : ◌≡◌ {A = ℕ} 0 1 = cc in ome
 said_made (built.Many n) e q = absurd (let z : ◌≡◌ {A = ℕ} 0 1 = cc in omega arith)
 said_made (built.Full b) e q = absurd (let z : ◌≡◌ {A = ℕ} 0 1 = cc in omega arith)
 said_made (built.Room a) e q = absurd (let z : ◌≡◌ {A = ℕ} 0 1 = cc in omega arith)
-
--- and no other
-other : (w : sparse.Built) (d : SparseOneNnd) → w ≡ built.Made d → OneOf (1 ∷ 2 ∷ 3 ∷ 4 ∷ []) (tag_of built_type.the_type w) → ⊥
-other w d e k = miss (1 ∷ 2 ∷ 3 ∷ 4 ∷ []) 0 tt (subst (λ x. OneOf (1 ∷ 2 ∷ 3 ∷ 4 ∷ []) (tag_of built_type.the_type x)) e k)
 
 module _ (scr : List ℕ) (lay : Layout) (o : SparseOneNnd) (b m g : List ℕ) (s : Putting scr lay o b m g) (r : Bool) (k : List ℕ) (q : marking r k ≡ mark_in scr lay) where
   abbrev l : List Bool
@@ -97,8 +90,8 @@ module _ (scr : List ℕ) (lay : Layout) (o : SparseOneNnd) (b m g : List ℕ) (
     made : (d : SparseOneNnd) × (w ≡ built.Made d) × (entries_in d ≡ entries_of (dict_of (flags l)))
     made = said_made w (entries_of (dict_of (flags l))) (ap (λ (x : DictAfter). x.reply) all)
 
-    pub put_refused : OneOf (1 ∷ 2 ∷ 3 ∷ 4 ∷ []) (tag_of built_type.the_type w) → {A : Type 0} → A
-    put_refused n = absurd (other w made.0 made.1 n)
+    pub put_refused : ((d : SparseOneNnd) → w ≡ built.Made d → ⊥) → {A : Type 0} → A
+    put_refused n = absurd (n made.0 made.1)
 
     pub put_made : (d : SparseOneNnd) → w ≡ built.Made d → (n : ℕ) (exit : List ℕ) → keeping n exit ≡ compact_in k lay
         → PutIs (family.Made d n) scr lay o b m g exit b' m' g'

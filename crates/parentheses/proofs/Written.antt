@@ -10,8 +10,6 @@ use lib.Dec.{leb}
 use lib.ListN.{length, take, drop, replicate, length-append}
 use lib.Seq.{sets, sets-eq, length-sets, paste, ext_get_or, get_or-take, length-take-le}
 use borrow.Author.Tests.{le-leb, lt-leb}
-use denote.Enum.Declared.{tag_of}
-use types.Run.{OneOf, miss}
 use Rattle.meaning.specs.Answers.{Refusal}
 use Rattle.meaning.specs.Bits.{pack, words_of, word_count}
 use Rattle.meaning.specs.Pioneers.{flags, pioneer_string}
@@ -33,7 +31,6 @@ use Rattle.parentheses.specs.Writes.{held_at, put, Putting, PutIs, Writing, Writ
 use Rattle.parentheses.specs.declared.plans.Sizes.{Sizes}
 use Rattle.parentheses.specs.declared.plans.Family.{Family}
 use Rattle.parentheses.specs.declared.plans.Family.TheVariants as family
-use Rattle.parentheses.specs.contracts.plans.Family as family_type
 use Rattle.parentheses.proofs.Holds.{drop_holding, standing_next}
 use Rattle.parentheses.proofs.Counting.{single, famous, tower_short, tower_long, even_middle, even_large}
 use Rattle.parentheses.proofs.Planning.{long_next}
@@ -176,8 +173,8 @@ module _ (scr : List ℕ) (lay : Layout) (left : ℕ) (at : Sizes) (w b m g : Li
             go (family.Full x) e q = absurd q
             go family.Broken e q = absurd q
 
-        pub write_refused : OneOf (1 ∷ 2 ∷ []) (tag_of family_type.the_type f) → {A : Type 0} → A
-        write_refused k = absurd (miss (1 ∷ 2 ∷ []) 0 tt (subst (λ x. OneOf (1 ∷ 2 ∷ []) (tag_of family_type.the_type x)) is_made.2 k))
+        pub write_refused : ((d : SparseOneNnd) (k : ℕ) → f ≡ family.Made d k → ⊥) → {A : Type 0} → A
+        write_refused n = absurd (n is_made.0 is_made.1 is_made.2)
 
         module _ (d : SparseOneNnd) (bits : ℕ) (e : f ≡ family.Made d bits) where
           abbrev next : Layout

@@ -12,4 +12,5 @@ pub mod Marks
 pub mod Marked
 pub mod Keeps
 pub mod Trims
+pub mod Agree
 pub mod Determined

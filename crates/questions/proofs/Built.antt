@@ -1,5 +1,4 @@
--- A question does not look at scratch. On the areas and the record that a build of an accepted list left, the next sibling of a node is
--- that of its string, with the list's label.
+-- On the areas and the record that a build of an accepted list left, the first child and the next sibling of a node are those of its string, with the list's labels.
 use mathlib.Core.Path.{◌≡◌, refl, ap, ◌∙◌}
 use mathlib.Core.Bool.{true, false}
 use mathlib.Core.Option.{Option, none, some}
@@ -24,7 +23,7 @@ use Rattle.questions.specs.Said.{node_of, said_edge}
 use Rattle.questions.specs.declared.Node.{Node}
 use Rattle.questions.specs.declared.Linked.{Linked}
 
--- areas 0 to 4, as a question is lent them
+-- areas 0 to 4, as a question is lent them: it does not look at scratch
 abbrev pub five : Lent → Lent
 five a = lent_at a.held.words a.held.bytes a.held.middle a.held.large a.labels
 
@@ -48,6 +47,13 @@ unfolding next_sibling node_refusal counts_fit
 sibling_lent t a n = ap (λ x. elim (node_refusal t a n) [ none ↦ x | some r ↦ refused r ]) (sibling_by_lent t a n (close_at (levels_in t a) n.place))
 
 module _ (vs bs : List ℕ) (rooms : Rooms) (a : Accepted vs bs rooms) (c : Counts) (e : tree_in c ≡ tree_of vs) (n : Node) (i : IsNode (string vs) (node_of n)) (r : Linked) where
+  pub first_child_matches : said_edge r ≡ first_child (tree_in c) (five (lent_of vs bs rooms)) (node_of n) → said_edge r ≡ edge_of bs (child (string vs) (node_of n))
+  first_child_matches f =
+      f
+      ∙ child_lent (tree_in c) (lent_of vs bs rooms) (node_of n)
+      ∙ ap (λ t. first_child t (lent_of vs bs rooms) (node_of n)) e
+      ∙ built.first_child_lem vs bs rooms a (node_of n) i
+
   pub next_sibling_matches : said_edge r ≡ next_sibling (tree_in c) (five (lent_of vs bs rooms)) (node_of n) → said_edge r ≡ edge_of bs (next (string vs) (node_of n))
   next_sibling_matches f =
       f

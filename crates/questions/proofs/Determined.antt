@@ -1,7 +1,6 @@
 -- Any two outcomes that the contract of a public function allows agree: what is said tells the answer.
 use mathlib.Core.Path.{refl, sym, ap, ◌∙◌}
 use Rattle.meaning.specs.Determined.{Determined}
-use Rattle.questions.specs.declared.Node.{Node}
 use Rattle.questions.proofs.Agree.{edges_agree, labels_agree, numbers_agree, truths_agree}
 use Rattle.questions.proofs.root.Reads as root
 use Rattle.questions.proofs.root.Kinds as root_kinds

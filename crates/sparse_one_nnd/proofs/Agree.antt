@@ -1,4 +1,4 @@
--- Two answers that say the same are the same: an answer can be told again from what it says.
+-- Any two outcomes that a contract allows agree: an answer can be told again from what it says.
 use mathlib.Core.Path.{◌≡◌, refl, sym, ap, ◌∙◌}
 use mathlib.Core.Bool.{true, false}
 use mathlib.Core.List.{List}
@@ -90,9 +90,16 @@ found_agree a b e = sym (found_back a) ∙ ap found_of e ∙ found_back b
 pub plan_agree : (a b : Planned) → said_plan a ≡ said_plan b → a ≡ b
 plan_agree a b e = sym (plan_back a) ∙ ap plan_of e ∙ plan_back b
 
-built_agree : (a b : Built) → said_built a ≡ said_built b → a ≡ b
+pub built_agree : (a b : Built) → said_built a ≡ said_built b → a ≡ b
 built_agree a b e = sym (built_back a) ∙ ap built_of e ∙ built_back b
 
+-- a write or a build: the answer and all three areas
+pub outcome_agree : (a b : Built) (d e : Dict) (x : DictAfter) → after (said_built a) d ≡ x → after (said_built b) e ≡ x → (a ≡ b) × (d ≡ e)
+outcome_agree a b d e x p q =
+    let r : after (said_built a) d ≡ after (said_built b) e = p ∙ sym q in
+    (built_agree a b (ap (λ (y : DictAfter). y.reply) r), ap (λ (y : DictAfter). y.areas) r)
+
+-- the same where neither outcome is named
 pub entries_agree : (c d : SparseOneNnd) → entries_in c ≡ entries_in d → c ≡ d
 unfolding counts
 entries_agree c d e = ap counts e
@@ -100,6 +107,5 @@ entries_agree c d e = ap counts e
 abbrev areas : Dict → List ℕ × List ℕ × List ℕ
 areas d = (d.bytes, d.middle, d.large)
 
--- a write or a build: the answer and all three areas
-pub outcome_agree : (a b : Built) (d e : Dict) → after (said_built a) d ≡ after (said_built b) e → (a ≡ b) × (areas d ≡ areas e)
-outcome_agree a b d e r = (built_agree a b (ap (λ (y : DictAfter). y.reply) r), ap (λ (y : DictAfter). areas y.areas) r)
+pub outcomes_agree : (a b : Built) (d e : Dict) → after (said_built a) d ≡ after (said_built b) e → (a ≡ b) × (areas d ≡ areas e)
+outcomes_agree a b d e r = (built_agree a b (ap (λ (y : DictAfter). y.reply) r), ap (λ (y : DictAfter). areas y.areas) r)

@@ -3,7 +3,7 @@ use mathlib.Core.Path.{refl, sym, ◌∙◌}
 use mathlib.Core.List.{List}
 use Prim.Native.Nat.{ℕ}
 use Rattle.meaning.specs.Determined.{Determined}
-use Rattle.sparse_one_nnd.proofs.Agree.{entries_agree, count_agree, found_agree, plan_agree, outcome_agree}
+use Rattle.sparse_one_nnd.proofs.Agree.{entries_agree, count_agree, found_agree, plan_agree, outcomes_agree}
 use Rattle.sparse_one_nnd.proofs.SparseOneNnd.empty.Reads as empty
 use Rattle.sparse_one_nnd.proofs.SparseOneNnd.empty.Kinds as empty_kinds
 use Rattle.sparse_one_nnd.proofs.SparseOneNnd.rank_one.Reads as rank_one
@@ -73,10 +73,10 @@ pub plan_determined : Determined _ plan_kinds.ps plan_kinds.r plan.Asked plan.Le
 plan_determined = record { asks_nothing = λ κs a. tt; agree = λ κs a z z' e e' p q. (plan_agree z z' (p ∙ sym q), refl) }
 
 pub write_determined : Determined _ write_kinds.ps write_kinds.r write.Asked write.Learnt (List ℕ × List ℕ × List ℕ) (λ κs e. (e.1.1.1.0.now, e.1.1.1.1.0.now, e.1.1.1.1.1.0.now))
-write_determined = record { asks_nothing = λ κs a. tt; agree = λ κs a z z' e e' p q. outcome_agree z z' _ _ (p ∙ sym q) }
+write_determined = record { asks_nothing = λ κs a. tt; agree = λ κs a z z' e e' p q. outcomes_agree z z' _ _ (p ∙ sym q) }
 
 pub build_determined : Determined _ build_kinds.ps build_kinds.r build.Asked build.Learnt (List ℕ × List ℕ × List ℕ) (λ κs e. (e.1.1.0.now, e.1.1.1.0.now, e.1.1.1.1.0.now))
-build_determined = record { asks_nothing = λ κs a. tt; agree = λ κs a z z' e e' p q. outcome_agree z z' _ _ (p ∙ sym q) }
+build_determined = record { asks_nothing = λ κs a. tt; agree = λ κs a z z' e e' p q. outcomes_agree z z' _ _ (p ∙ sym q) }
 
 pub rank_determined : Determined _ rank_kinds.ps rank_kinds.r rank.Asked rank.Learnt (Unit {0}) (λ κs e. tt)
 rank_determined = record { asks_nothing = λ κs a. tt; agree = λ κs a z z' e e' p q. (count_agree z z' (p ∙ sym q), refl) }

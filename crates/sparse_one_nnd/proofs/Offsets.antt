@@ -15,8 +15,9 @@ use Rattle.meaning.specs.BitString.{held, if_held, before_end, string_succ, Met,
 use Rattle.meaning.proofs.Rank.{length_places}
 use Rattle.meaning.proofs.Stored.{length_bits}
 use Rattle.bit_string.specs.Said.{said_step}
-use Rattle.bit_string.specs.Indices.{goes_on}
+use Rattle.bit_string.specs.Indices.{goes_on, answer, moved}
 use Rattle.bit_string.specs.declared.Cursor.{Cursor}
+use Rattle.bit_string.specs.declared.one_indices.OneIndices.{OneIndices}
 use Rattle.bit_string.specs.declared.Step.{Step}
 use Rattle.bit_string.specs.declared.Step.TheVariants as step
 use Rattle.sparse_one_nnd.specs.Offsets.{met_one, offset_put, OffsetFits, OffsetsFit}
@@ -105,7 +106,7 @@ module _ (ws : List ℕ) (k at : ℕ) (B₀ B : List ℕ) (next p : ℕ) (f : Of
   off_fits = subst (OffsetFits B next) (sym step_is) (fits_at (places p (drop p (bits_of ws k))) refl)
 
   -- a one is met, and written
-  abbrev On : Answer Met → Type 0
+  abbrev pub On : Answer Met → Type 0
   On a = (Offsets ws k at B₀ (offset_put B next a) (next + 1) (goes_on a p) × (k - goes_on a p < k - p)) × (next + 1 ≤ length B₀)
 
   on_at : (r : List ℕ) → places p (drop p (bits_of ws k)) ≡ r → T (met_one (met_at (item 0 r))) → On (met_at (item 0 r))
@@ -126,3 +127,27 @@ module _ (ws : List ℕ) (k at : ℕ) (B₀ B : List ℕ) (next p : ℕ) (f : Of
   off_end =
       subst (λ (a : Answer Met). T (not (met_one a)) → offset_put B next a ≡ sets B₀ at (places 0 (bits_of ws k))) (sym step_is)
       (end_at (places p (drop p (bits_of ws k))) refl)
+
+-- the same, with the struct that steps
+pub record Going (ws : List ℕ) (k at : ℕ) (B₀ B : List ℕ) (it : OneIndices) (next : ℕ) : Type 0 where
+  pub words : it.words.now ≡ ws
+  pub len : it.len ≡ k
+  pub offsets : Offsets ws k at B₀ B next it.next
+
+module _ (ws : List ℕ) (k at : ℕ) (B₀ B : List ℕ) (it : OneIndices) (next : ℕ) (f : OffsetsFit ws B₀ k at) (g : Going ws k at B₀ B it next) where
+  answers : answer it ≡ one_from ws k it.next
+  answers = ap₂ (λ (w : List ℕ) (n : ℕ). one_from w n it.next) g.words g.len
+
+  pub going_fits : OffsetFits B next (answer it)
+  going_fits = subst (OffsetFits B next) (sym answers) (off_fits ws k at B₀ B next it.next f g.offsets)
+
+  pub going_on : T (met_one (answer it))
+      → (Going ws k at B₀ (offset_put B next (answer it)) (moved it) (next + 1) × (k - (moved it).next < k - it.next)) × (next + 1 ≤ length B₀)
+  going_on y =
+      let w = subst (λ (a : Answer Met). T (met_one a) → On ws k at B₀ B next it.next f g.offsets a) (sym answers) (off_on ws k at B₀ B next it.next f g.offsets) y in
+      ((record { words = g.words; len = g.len; offsets = w.0.0 }, w.0.1), w.1)
+
+  pub going_end : T (not (met_one (answer it))) → offset_put B next (answer it) ≡ sets B₀ at (places 0 (bits_of ws k))
+  going_end =
+      subst (λ (a : Answer Met). T (not (met_one a)) → offset_put B next a ≡ sets B₀ at (places 0 (bits_of ws k))) (sym answers)
+      (off_end ws k at B₀ B next it.next f g.offsets)

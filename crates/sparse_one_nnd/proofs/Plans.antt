@@ -17,7 +17,7 @@ use Rattle.sparse_one_nnd.specs.declared.SparseOneNnd.{SparseOneNnd}
 use Rattle.sparse_one_nnd.specs.declared.Planned.TheVariants as planned
 use Rattle.sparse_one_nnd.specs.declared.first_pass.Pass.{Pass}
 use Rattle.sparse_one_nnd.specs.declared.first_pass.Pass.TheVariants as pass
-use Rattle.sparse_one_nnd.specs.Said.{entries_in, said_plan, many, full}
+use Rattle.sparse_one_nnd.specs.Said.{entries_in, said_plan, many}
 use Rattle.sparse_one_nnd.specs.Blocks.{PassIs, Counted, FullIs, ManyIs, counts_of}
 use Rattle.sparse_one_nnd.proofs.Blocks.{opens_le}
 

@@ -1,18 +1,14 @@
 -- After the walk: scratch made zeros, and the lists too if it is refused.
-use mathlib.Core.Path.{◌≡◌, sym, ap, ◌∙◌}
-use mathlib.Core.Logic.{◌⊎◌, inl, inr}
+use mathlib.Core.Path.{◌≡◌, sym, ap, ◌∙◌, refl}
 use mathlib.Core.List.{List}
 use Prim.Native.Nat.{ℕ}
-use native.Mathlib.Omega.{arith}
 use lib.ListN.{length, replicate, length-replicate}
-use denote.Enum.Declared.{tag_of}
 use Rattle.meaning.specs.Answers as answers
 use Rattle.meaning.specs.Answers.{is, refused}
 use Rattle.meaning.specs.Build.{Tree, Lent}
 use Rattle.meaning.specs.Walking as walk
 use Rattle.meaning.specs.Walking.{unwalked, walking}
 use Rattle.questions.specs.Said.{refusal_of}
-use Rattle.walk.specs.contracts.Walked as walked_type
 use Rattle.walk.specs.declared.Walked.{Walked}
 use Rattle.walk.specs.declared.Walked.TheVariants as answer
 use Rattle.walk.specs.Said.{said, walked, rooms_at}
@@ -42,7 +38,7 @@ module _ (t : Tree) (a : Lent) (vs bs s vs₁ bs₁ vs₂ bs₂ s₂ s₃ : List
       ends (walked (is n) vs₂ bs₂ s₃)
       (ap (λ x. walked (is n) vs₂ bs₂ x) z ∙ ap (λ x. ended (said x) vs₂ bs₂ s₂) (sym f))
 
-  pub walked_refused : (vs₃ bs₃ : List ℕ) → Cleared vs₂ bs₂ vs₃ bs₃ → (tag_of walked_type.the_type r ≡ 1) ⊎ (tag_of walked_type.the_type r ≡ 2)
+  pub walked_refused : (vs₃ bs₃ : List ℕ) → Cleared vs₂ bs₂ vs₃ bs₃ → ((n : ℕ) → r ≡ answer.Is n → ⊥)
       → walked (said r) vs₃ bs₃ s₃ ≡ walking t a (rooms_at vs bs s)
   unfolding ended unwalked
   walked_refused vs₃ bs₃ l f = ends (walked (said r) vs₃ bs₃ s₃) (go r f)
@@ -50,8 +46,7 @@ module _ (t : Tree) (a : Lent) (vs bs s vs₁ bs₁ vs₂ bs₂ s₂ s₃ : List
       zeroed : (x : answers.Refusal) → walked (refused x) vs₃ bs₃ s₃ ≡ unwalked (rooms_at vs₂ bs₂ s₂) x
       zeroed x = cc (l.levels, l.labels)
 
-      go : (r : Walked) → (tag_of walked_type.the_type r ≡ 1) ⊎ (tag_of walked_type.the_type r ≡ 2) → walked (said r) vs₃ bs₃ s₃ ≡ ended (said r) vs₂ bs₂ s₂
-      go (answer.Is n) (inl f) = absurd (omega arith)
-      go (answer.Is n) (inr f) = absurd (omega arith)
+      go : (r : Walked) → ((n : ℕ) → r ≡ answer.Is n → ⊥) → walked (said r) vs₃ bs₃ s₃ ≡ ended (said r) vs₂ bs₂ s₂
+      go (answer.Is n) f = absurd (f n refl)
       go (answer.Room i) f = zeroed (answers.room i)
       go (answer.Refused x) f = zeroed (refusal_of x)

@@ -1,0 +1,13 @@
+-- `copy_labels`: j labels are there.
+use Rattle.balanced_parens.proofs.Labels.{copied_none, copied_more, copied_all}
+use borrow.Author.Rules.{rules}
+use Rattle.balanced_parens.proofs.builder.copy_labels.Goals as goal
+
+pub loop-j-init : goal.loop-j-init
+loop-j-init c = search (copied_none, rules)
+
+pub loop-j-preserved : goal.loop-j-preserved
+loop-j-preserved c = search (copied_more, rules)
+
+pub returns : goal.returns
+returns c = search (copied_all, rules)

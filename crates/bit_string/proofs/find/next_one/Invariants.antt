@@ -1,0 +1,13 @@
+-- `find::next_one` meets its contract. The loop's invariant: there is no one from place i up to place `from` of word q.
+use mathlib.Core.Bool.{true}
+use Prim.Native.Nat.{◌+◌, ◌-◌}
+use Rattle.meaning.specs.Bits.{bits_of}
+use Rattle.meaning.specs.Plain.{side}
+use Rattle.bit_string.proofs.Ahead.{Ahead}
+use Rattle.bit_string.proofs.find.next_one.Given as goal
+
+abbrev pub invariant-loop-q : goal.invariant-loop-q
+invariant-loop-q l = Ahead (side true (bits_of l.words l.n)) l.i l.q l.from
+
+abbrev pub decreases-loop-q : goal.decreases-loop-q
+decreases-loop-q l = l.last + 1 - l.q

@@ -1,0 +1,9 @@
+-- `replay` is safe, and ends.
+use Rattle.std.proofs.Common.{◌-◌, length}
+use Rattle.bit_string_replay.proofs.replay.Given as goal
+
+abbrev pub invariant-loop-at : goal.invariant-loop-at
+invariant-loop-at l = Unit {0}
+
+abbrev pub decreases-loop-at : goal.decreases-loop-at
+decreases-loop-at l = length l.text - l.at

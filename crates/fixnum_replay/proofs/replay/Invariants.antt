@@ -1,0 +1,9 @@
+-- `replay` meets its contract: it is safe, and each turn gets on in the text.
+use Rattle.std.proofs.Common.{◌-◌, length}
+use Rattle.fixnum_replay.proofs.replay.Given as goal
+
+abbrev pub invariant-loop-at : goal.invariant-loop-at
+invariant-loop-at l = Unit {0}
+
+abbrev pub decreases-loop-at : goal.decreases-loop-at
+decreases-loop-at l = length l.text - l.at

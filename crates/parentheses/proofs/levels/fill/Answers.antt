@@ -1,0 +1,14 @@
+-- `fill`: zeros first, then the levels.
+use Rattle.parentheses.proofs.Outcomes.{fill_writing, fill_written}
+use Rattle.parentheses.proofs.levels.fill.Goals as goal
+
+pub layout-requires : goal.layout-requires
+layout-requires c = c.requires.holds.stands.few
+
+pub write_levels-requires : goal.write_levels-requires
+write_levels-requires c =
+    fill_writing _ _ _ _ _ _ c.requires _ _ _ _ c.zero64.ensures c.zero8.ensures c.zero16.ensures c.zero64-2.ensures _ c.empty.ensures _ c.layout.ensures
+
+pub returns : goal.returns
+returns c =
+    fill_written _ _ _ _ _ _ c.requires _ _ _ _ c.zero64.ensures c.zero8.ensures c.zero16.ensures c.zero64-2.ensures _ c.empty.ensures _ c.layout.ensures _ _ _ _ _ c.write_levels.ensures

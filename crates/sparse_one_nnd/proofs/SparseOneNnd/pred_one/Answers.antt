@@ -1,0 +1,10 @@
+-- `pred_one` meets its contract: the counts fit, and the question is asked of their part.
+use Rattle.sparse_one_nnd.proofs.Parts.{pred_unfit, pred_fit}
+use borrow.Author.Rules.{rules}
+use Rattle.sparse_one_nnd.proofs.SparseOneNnd.pred_one.Goals as goal
+
+pub returns-then-fit : goal.returns-then-fit
+returns-then-fit c = search (pred_fit, rules)
+
+pub returns : goal.returns
+returns c = search (pred_unfit, rules)

@@ -1,0 +1,10 @@
+-- `put_offsets`: the offsets of the ones before the next place are written.
+use Rattle.std.proofs.Common.{◌-◌}
+use Rattle.sparse_one_nnd.proofs.Offsets.{Going}
+use Rattle.sparse_one_nnd.proofs.second_pass.put_offsets.Given as goal
+
+abbrev pub invariant-loop-ones : goal.invariant-loop-ones
+invariant-loop-ones l = Going l.ws l.k l.at l.fn.bytes l.bytes l.ones l.next
+
+abbrev pub decreases-loop-ones : goal.decreases-loop-ones
+decreases-loop-ones l = l.k - l.ones.next
