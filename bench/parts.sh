@@ -1,7 +1,7 @@
 # shellcheck shell=bash disable=SC2034
 # Sourced by bench/run and tools/large-runs: goes to the repository's top, and makes what they link in target/bench.
 #
-#   FLIGHT_ARCHIVE    an archive of `rt staticlib flight` to take as it is
+#   FLIGHT_ARCHIVE    an archive of `rt lib` in crates/flight to take as it is
 #   SUCCPAREN_SRC     the checkout of the original, by default ../shared/docs/src beside the repository
 #   CARGO_TARGET_DIR  where cargo builds, by default oracle/target
 #   CC, CXX           by default gcc and g++
@@ -30,12 +30,12 @@ make_flight() {
     command -v "$cc" >/dev/null || cannot "no C compiler $cc"
     [ -z "$flight" ] || return 0
     command -v rt >/dev/null || cannot "no rt on PATH, and FLIGHT_ARCHIVE is not set"
-    if ! rt staticlib flight >"$parts/flight.log" 2>&1; then
+    if ! (cd crates/flight && rt lib) >"$parts/flight.log" 2>&1; then
         cat "$parts/flight.log" >&2
         exit 1
     fi
-    flight=target/staticlib/libflight.a
-    flight_said="\`rt staticlib flight\`"
+    flight=crates/flight/out/libflight.a
+    flight_said="\`rt lib\` in crates/flight"
 }
 
 # The original Rust: sets `original` to what is linked, and `original_said`.

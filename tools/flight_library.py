@@ -1,4 +1,4 @@
-"""The tree's C interface (include/oscjardum.h) from Python: the archive of `rt staticlib flight` as a shared library, and six lent areas with a record."""
+"""The tree's C interface (include/oscjardum.h) from Python: the archive of `rt lib` in crates/flight as a shared library, and six lent areas with a record."""
 
 import ctypes
 import os
@@ -23,10 +23,11 @@ def library(folder):
     if not archive:
         if shutil.which("rt") is None:
             raise Absent("no rt on PATH")
-        made = subprocess.run(["rt", "staticlib", "flight"], cwd=TOP, stdout=subprocess.PIPE, stderr=subprocess.STDOUT, text=True)
+        crate = os.path.join(TOP, "crates", "flight")
+        made = subprocess.run(["rt", "lib"], cwd=crate, stdout=subprocess.PIPE, stderr=subprocess.STDOUT, text=True)
         if made.returncode != 0:
             raise SystemExit(made.stdout)
-        archive = os.path.join(TOP, "target", "staticlib", "libflight.a")
+        archive = os.path.join(crate, "out", "libflight.a")
     shared = os.path.join(folder, "flight.so")
     subprocess.run(["gcc", "-shared", "-o", shared, "-Wl,--whole-archive", archive, "-Wl,--no-whole-archive"], check=True)
     flight = ctypes.CDLL(shared)
