@@ -1,6 +1,6 @@
 /*
  * Oscjardum: a balanced-parentheses tree in lent memory, for C11 on x86-64.
- * Link libflight.a (`rt staticlib flight`). See docs/FLIGHT.md and examples/catalogue.c.
+ * Link libflight.a (`rt lib` in crates/flight). See docs/FLIGHT.md and examples/catalogue.c.
  *
  * Every function takes any numbers and any contents: the caller checks nothing first. What the caller answers for is C's own:
  * each pointer has as many elements behind it as the length says (of length 0 nothing is read or written), it is aligned for
