@@ -1,75 +1,52 @@
 // One line.
-use answering::stood::ask_stood;
-use asking::Answer;
-use asking::put::{put_answer, put_byte};
-use asking::read::{alone, both, is_word};
+use answering::ask;
+use answering::edits::edit_line;
+use asking::out::Out;
+use asking::read::{only_word, word};
 use building::{build_stood, grow_line};
-use changing::dict::dict_build;
-use changing::edits::{edit_line, is_edit_line};
+use changing::dict::build_dict;
 use changing::walking::walk_line;
-use standing::give::give_line;
-use standing::show::show_line;
+use replies::op::Op;
+use standing::Standing;
+use standing::give::give;
+use standing::show::show;
 
-// Whether a line gives what stands.
-fn gives(line: &[u8]) -> bool {
-    is_word(line, 0, b"areas")
-        || is_word(line, 0, b"put")
-        || is_word(line, 0, b"levels")
-        || is_word(line, 0, b"labels")
-        || is_word(line, 0, b"record")
-        || is_word(line, 0, b"length")
-}
-
-// Whether a line changes a tree or a dictionary.
-fn changes(line: &[u8]) -> bool {
-    alone(line, b"build") || is_word(line, 0, b"grow") || both(line, b"dict", b"build")
-}
-
-fn change(line: &[u8], state: &mut [u64]) -> Answer {
-    if is_word(line, 0, b"build") {
-        return build_stood(state);
+// An edit of the bit string, if a text names one, and its list.
+fn edit_of(text: &[u8]) -> Option<(Op, &[u8])> {
+    let (name, list) = word(text);
+    match Op::named(name) {
+        Some(op) if op.is_edit() => Some((op, list)),
+        _ => None,
     }
-    if is_word(line, 0, b"grow") {
-        return grow_line(line, state);
-    }
-    dict_build(state)
-}
-
-// A line that asks.
-fn ask(line: &[u8], state: &[u64], out: &mut [u8], at: usize) -> usize {
-    if is_word(line, 0, b"show") {
-        return show_line(line, state, out, at);
-    }
-    ask_stood(line, state, out, at)
 }
 
 // A line that is neither empty nor a comment.
-fn case(line: &[u8], state: &mut [u64], out: &mut [u8], at: usize) -> usize {
-    if gives(line) {
-        let a = give_line(line, state);
-        return put_answer(out, at, a);
+fn case(line: &[u8], s: &mut Standing, out: &mut Out) {
+    if let Some(given) = give(line, s) {
+        return out.answer(given.into());
     }
-    if changes(line) {
-        let a = change(line, state);
-        return put_answer(out, at, a);
+    let (first, rest) = word(line);
+    match first {
+        b"build" if rest.is_empty() => out.answer(build_stood(s)),
+        b"grow" => out.answer(grow_line(rest, s).into()),
+        b"walk" => if let Err(fault) = walk_line(rest, s, out) {
+            out.answer(fault.into())
+        }
+        b"show" => show(rest, s, out),
+        b"dict" if matches!(only_word(rest), Some(b"build")) => out.answer(build_dict(&mut s.tree)),
+        b"string" => match edit_of(rest) {
+            Some((op, list)) => edit_line(op, list, &mut s.tree, out),
+            None => ask(line, s, out),
+        },
+        _ => ask(line, s, out),
     }
-    if is_word(line, 0, b"walk") {
-        return walk_line(line, state, out, at);
-    }
-    if is_edit_line(line) {
-        return edit_line(line, state, out, at);
-    }
-    ask(line, state, out, at)
 }
 
 // A line. An empty one is answered by nothing, and a comment by its mark.
-pub fn answer_line(line: &[u8], state: &mut [u64], out: &mut [u8], at: usize) -> usize {
-    let first = recorded::byte_at(line, 0);
-    if first == b'\n' {
-        return at;
+pub fn answer_line(line: &[u8], s: &mut Standing, out: &mut Out) {
+    match line.first() {
+        Some(b'\n') => {}
+        Some(b'#') => out.byte(b'#'),
+        _ => case(line, s, out),
     }
-    if first == b'#' {
-        return put_byte(out, at, b'#');
-    }
-    case(line, state, out, at)
 }

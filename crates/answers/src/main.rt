@@ -4,10 +4,12 @@
 mod line;
 mod pages;
 
+use asking::out::Out;
+use standing::Standing;
+
 fn main() {
     let mut text = [0u8; 262144];
-    let mut out = io::large_buffer();
-    let mut state = [0u64; 262144];
-    standing::block::fresh(&mut state, [0; 6]);
-    pages::run(&mut text, &mut out, &mut state);
+    let mut standing = Standing::new();
+    let mut out = Out::new();
+    pages::run(&mut text, &mut standing, &mut out);
 }

@@ -1,107 +1,53 @@
 // The input in pieces, line by line.
+ghost use Rattle.std.specs.Prelude.{◌≤◌, length};
+
 use crate::line::answer_line;
-use asking::put::{flush, put_answer, put_byte};
+use asking::out::Out;
 use asking::{Answer, Fault};
-use std::num::wrapping_add_usize;
+use standing::Standing;
 
-// Behind the newline at or after a place; the end where there is none.
-fn line_end(text: &[u8], at: usize) -> usize {
-    let mut i = at;
-    while i < text.len() {
-        if text[i] == b'\n' {
-            return i + 1;
-        }
-        i += 1;
+// Behind the first newline of a text; the end where there is none.
+fn line_end(text: &[u8]) -> usize
+    ensures { result ≤ length text.now }
+{
+    match text.iter().position(|b| *b == b'\n') {
+        Some(i) => i + 1,
+        None => text.len(),
     }
-    text.len()
 }
 
-// Of the first n bytes, how many are whole lines.
-fn whole(text: &[u8], n: usize) -> usize {
-    if text.len() < n {
-        return 0;
+// How much of a text is whole lines.
+fn whole(text: &[u8]) -> usize
+    ensures { result ≤ length text.now }
+{
+    match text.iter().rposition(|b| *b == b'\n') {
+        Some(i) => i + 1,
+        None => 0,
     }
-    let mut m = n;
-    while 0 < m {
-        if text[m - 1] == b'\n' {
-            return m;
-        }
-        m -= 1;
-    }
-    0
 }
 
-// What is left of the first `end` bytes behind the first n, moved to the front: how much that is.
-fn shift(text: &mut [u8], n: usize, end: usize) -> usize {
-    let mut k: usize = 0;
-    let mut i = n;
-    while i < end {
-        if text.len() <= i {
-            return k;
-        }
-        text[k] = text[i];
-        k += 1;
-        i += 1;
+// The lines of a text, each answered by a line.
+fn lines(text: &[u8], s: &mut Standing, out: &mut Out) {
+    for line in text.split_inclusive(|b| *b == b'\n') {
+        answer_line(line, s, out);
+        out.byte(b'\n');
     }
-    k
+    out.flush();
 }
 
-// The line of a range, and its answer with a newline.
-fn answered(
-    text: &[u8],
-    from: usize,
-    to: usize,
-    state: &mut [u64],
-    out: &mut [u8],
-    at: usize,
-) -> usize {
-    if to < from || text.len() < to {
-        return at;
-    }
-    let a = answer_line(&text[from..to], state, out, at);
-    put_byte(out, a, b'\n')
-}
-
-// The lines of a range.
-fn lines(text: &[u8], from: usize, to: usize, state: &mut [u64], out: &mut [u8]) {
-    let mut o: usize = 0;
-    let mut i = from;
-    while i < to {
-        let e = line_end(text, i);
-        o = answered(text, i, e, state, out, o);
-        if e <= i {
-            return;
-        }
-        i = e;
-    }
-    flush(out, o);
-}
-
-// What is kept of the last line, whether the rest of a line is passed over, and whether there is more to read.
+// What is kept of the last line, and whether the rest of a line is passed over.
 #[derive(Clone, Copy)]
 struct Page {
     kept: usize,
     pass: bool,
-    more: bool,
 }
 
-// What is read behind the bytes that are kept: where it ends.
-fn read_more(text: &mut [u8], kept: usize) -> usize {
-    if text.len() < kept {
-        return text.len();
-    }
-    wrapping_add_usize(kept, io::read_full(0, &mut text[kept..]))
-}
-
-// The end of the input ends its last line.
-fn close_line(text: &mut [u8], end: usize) -> usize {
-    if end == 0 {
-        return end;
-    }
-    if text.len() <= end {
-        return end;
-    }
-    if text[end - 1] == b'\n' {
+// The end of the input ends its last line. Where the text then ends.
+fn close_line(text: &mut [u8], end: usize) -> usize
+    requires { end ≤ length text.old }
+    ensures { result ≤ length text.old }
+{
+    if end == 0 || text.len() <= end || text[end - 1] == b'\n' {
         return end;
     }
     text[end] = b'\n';
@@ -109,61 +55,54 @@ fn close_line(text: &mut [u8], end: usize) -> usize {
 }
 
 // A text without a newline: one answer, and none where it is the rest of a line that was passed over.
-fn too_long(out: &mut [u8], pass: bool) {
+fn too_long(out: &mut Out, pass: bool) {
     if pass {
         return;
     }
-    let a = put_answer(out, 0, Answer::Bad(Fault::Long));
-    let b = put_byte(out, a, b'\n');
-    flush(out, b);
+    out.answer(Answer::Bad(Fault::Long));
+    out.byte(b'\n');
+    out.flush();
 }
 
-// Where the lines start: behind the rest of one that is passed over.
-fn first_line(text: &[u8], pass: bool) -> usize {
-    if pass {
-        return line_end(text, 0);
-    }
-    0
-}
-
-// One piece of the input: what was kept of the last line, and what is read behind it.
-fn read_page(text: &mut [u8], state: &mut [u64], out: &mut [u8], p: Page) -> Page {
-    let got = read_more(text, p.kept);
+// One piece of the input: what was kept of the last line, and what is read behind it. The next page, if there is more to read.
+fn read_page(text: &mut [u8], page: Page, s: &mut Standing, out: &mut Out) -> Option<Page> {
+    let read = io::read_full(0, text.get_mut(page.kept..)?);
+    let got = page.kept + read;
     let more = got == text.len();
     let end = close_line(text, got);
-    let n = whole(text, end);
+    let n = whole(&text[..end]);
     if n == 0 && more {
-        too_long(out, p.pass);
-        return Page {
+        too_long(out, page.pass);
+        return Some(Page {
             kept: 0,
             pass: true,
-            more,
-        };
+        });
     }
-    lines(text, first_line(text, p.pass), n, state, out);
-    Page {
-        kept: shift(text, n, end),
+    let from = if page.pass { line_end(&text[..n]) } else { 0 };
+    lines(&text[from..n], s, out);
+    text.copy_within(n..end, 0);
+    if !more {
+        return None;
+    }
+    Some(Page {
+        kept: end - n,
         pass: false,
-        more,
-    }
+    })
 }
 
 // So many pieces at most.
 const PIECES: usize = 1000000000000000;
 
 // All of the input.
-pub fn run(text: &mut [u8], out: &mut [u8], state: &mut [u64]) {
-    let mut p = Page {
+pub fn run(text: &mut [u8], s: &mut Standing, out: &mut Out) {
+    let mut page = Page {
         kept: 0,
         pass: false,
-        more: true,
     };
-    let mut left = PIECES;
-    while 0 < left {
-        if !p.more {
-            return;
+    for _ in 0..PIECES {
+        match read_page(text, page, s, out) {
+            Some(next) => page = next,
+            None => return,
         }
-        p = read_page(text, state, out, p);
-        left -= 1;
     }
 }

@@ -1,77 +1,51 @@
-// Words and numbers of a line. A line is its bytes with the newline that ends it.
-use recorded::{Entry, begins, byte_at, next_entry};
+// Words and numbers of a line. A line is its bytes with the newline that ends it; a space, a tab or the newline ends a word.
+use crate::Fault;
 
-// A number, the byte that ends it, and where the next field starts; that is the line's length if there is none.
-#[derive(Clone, Copy)]
-pub struct Field {
-    pub value: usize,
-    pub stop: u8,
-    pub next: usize,
-    pub good: bool,
-}
-
-fn ends_word(b: u8) -> bool {
-    b == b' ' || b == b'\t' || b == b'\n'
-}
-
-// Whether the word at a place is this one.
-pub fn is_word(line: &[u8], at: usize, word: &[u8]) -> bool {
-    if begins(line, at, word) {
-        return ends_word(byte_at(line, std::num::wrapping_add_usize(at, word.len())));
+// The first word of a text, and what stands behind the byte that ends it.
+pub fn word(text: &[u8]) -> (&[u8], &[u8]) {
+    match text.iter().position(|b| matches!(*b, b' ' | b'\t' | b'\n')) {
+        Some(end) => (&text[..end], &text[end + 1..]),
+        None => (&[], &[]),
     }
-    false
 }
 
-// Where the next field starts behind the word at a place.
-pub fn behind(line: &[u8], at: usize) -> usize {
-    let mut i = at;
-    while i < line.len() {
-        if ends_word(line[i]) {
-            return i + 1;
+// The number that a text is in decimal, at most 2^64 - 1 and without leading zeros.
+pub fn number_of(text: &[u8]) -> Option<usize> {
+    if text.is_empty() || (1 < text.len() && text[0] == b'0') {
+        return None;
+    }
+    let mut n: usize = 0;
+    for b in text {
+        if !b.is_ascii_digit() {
+            return None;
         }
-        i += 1;
+        n = n.checked_mul(10)?.checked_add(usize::from(*b - b'0'))?;
     }
-    i
+    Some(n)
 }
 
-// Whether this word is all the line.
-pub fn alone(line: &[u8], word: &[u8]) -> bool {
-    is_word(line, 0, word) && behind(line, 0) == line.len()
-}
-
-// Whether these two words are all the line.
-pub fn both(line: &[u8], word: &[u8], next: &[u8]) -> bool {
-    let at = behind(line, 0);
-    is_word(line, 0, word) && is_word(line, at, next) && behind(line, at) == line.len()
-}
-
-// The number that starts at a place and ends with a colon or as a word does.
-pub fn part(line: &[u8], at: usize) -> Field {
-    let r = next_entry(line, at);
-    let entry = r.entry;
-    match entry {
-        Entry::Number(x) => Field {
-            value: x as usize,
-            stop: r.stop,
-            next: r.next,
-            good: r.stop != 0,
-        },
-        _ => Field {
-            value: 0,
-            stop: r.stop,
-            next: r.next,
-            good: false,
-        },
+// The number that the first word is, and what stands behind it.
+pub fn number(text: &[u8]) -> Result<(usize, &[u8]), Fault> {
+    let (first, rest) = word(text);
+    match number_of(first) {
+        Some(n) => Ok((n, rest)),
+        None => Err(Fault::Number),
     }
 }
 
-// The number that is the word at a place.
-pub fn number(line: &[u8], at: usize) -> Field {
-    let f = part(line, at);
-    Field {
-        value: f.value,
-        stop: f.stop,
-        next: f.next,
-        good: f.good && f.stop != b':',
+// The two numbers that are all of a text.
+pub fn pair(text: &[u8]) -> Result<(usize, usize), Fault> {
+    let (first, behind) = number(text)?;
+    let (second, rest) = number(behind)?;
+    if rest.is_empty() {
+        Ok((first, second))
+    } else {
+        Err(Fault::Number)
     }
+}
+
+// The word that is all of a text.
+pub fn only_word(text: &[u8]) -> Option<&[u8]> {
+    let (first, rest) = word(text);
+    if rest.is_empty() { Some(first) } else { None }
 }

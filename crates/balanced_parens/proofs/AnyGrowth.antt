@@ -17,11 +17,12 @@ use Rattle.meaning.specs.Build.{Lent, Tree, After, rooms_of}
 use Rattle.meaning.specs.Growth.{levels_of, one_root, grown, grown_tower, first_bits, sound_in, sound, grow_refusal, grow}
 use Rattle.record.specs.Record.{tree_in}
 use Rattle.record.specs.declared.Counts.{Counts}
-use Rattle.balanced_parens.specs.Said.{refusal_of, is_made, said}
+use Rattle.std.specs.Prelude.{is_ok}
+use Rattle.refusal.specs.Said.{refused_of}
+use Rattle.balanced_parens.specs.Said.{said}
 use Rattle.balanced_parens.specs.Areas.{after}
 use Rattle.balanced_parens.specs.Contract.{GrowsTo}
-use Rattle.balanced_parens.specs.Demands.{string_at, tower_at, GrowthAnswers, SameString, SameGrowth}
-use Rattle.balanced_parens.specs.declared.answer.Built.{Built}
+use Rattle.balanced_parens.specs.Demands.{Made, string_at, tower_at, GrowthAnswers, SameString, SameGrowth}
 use Rattle.balanced_parens.proofs.Builds.{which}
 use Rattle.balanced_parens.proofs.Agree.{answers_agree}
 use Rattle.balanced_parens.proofs.Outcome.{outcome_of, Says, says, either_way, no_refusal, if_made, if_not}
@@ -36,7 +37,7 @@ new_areas c a v b = record { held = written (rooms_of a) (tower_at c a v); label
 as_stood : Lent → Lent
 as_stood a = record { held = a.held; labels = a.labels; scratch = replicate (length a.scratch) 0 }
 
-module _ (c : Counts) (v b : ℕ) (a z : Lent) (r : Built) (g : GrowsTo c v b a z r) where
+module _ (c : Counts) (v b : ℕ) (a z : Lent) (r : Made) (g : GrowsTo c v b a z r) where
   abbrev first : Option Refusal
   first = grow_refusal (tree_in c) a v
 
@@ -50,10 +51,10 @@ module _ (c : Counts) (v b : ℕ) (a z : Lent) (r : Built) (g : GrowsTo c v b a 
   reply : (o : Option Refusal) → first ≡ o → said r ≡ (outcome_of (new_tree c a v) (new_areas c a v b) (as_stood a) o).reply
   reply o e = ap (λ (x : After). x.reply) (outcome ∙ ap (outcome_of (new_tree c a v) (new_areas c a v b) (as_stood a)) e)
 
-  made : is_made r.verdict ≡ true → first ≡ none
+  made : is_ok r ≡ true → first ≡ none
   made = if_made (new_tree c a v) (new_areas c a v b) (as_stood a) z r first tells
 
-  not_made : is_made r.verdict ≡ false → (x : Refusal) × (refusal_of r.verdict ≡ some x) × (first ≡ some x)
+  not_made : is_ok r ≡ false → (x : Refusal) × (refused_of r ≡ some x) × (first ≡ some x)
   not_made = if_not (new_tree c a v) (new_areas c a v b) (as_stood a) z r first tells
 
   -- Demand 1, of growth
@@ -61,7 +62,7 @@ module _ (c : Counts) (v b : ℕ) (a z : Lent) (r : Built) (g : GrowsTo c v b a 
   unfolding new_tree new_areas as_stood
   growth_answers =
       record {
-        made = (λ m. sym tells.first ∙ ap refusal_of m, λ e. no_refusal r (tells.first ∙ e));
+        made = (made, λ e. no_refusal r (tells.first ∙ e));
         first = λ x. (λ e. sym tells.first ∙ e, λ e. tells.first ∙ e);
         record_of = λ f. tells.tree (made f);
         areas = λ f. ap (λ (x : Lent). x.held) (tells.areas (made f));
@@ -69,7 +70,6 @@ module _ (c : Counts) (v b : ℕ) (a z : Lent) (r : Built) (g : GrowsTo c v b a 
         kept = λ f.
             let q = not_made f in
             (ap (λ (x : Lent). x.held) (tells.kept q.0 q.2), ap (λ (x : Lent). x.labels) (tells.kept q.0 q.2));
-        counts = λ f. let q = not_made f in g.counts.nothing q.0 q.1;
         scratch =
             either_way (new_tree c a v) (new_areas c a v b) (as_stood a) z r (λ x. x.scratch ≡ replicate (length a.scratch) 0) refl refl first outcome;
       }
@@ -84,7 +84,7 @@ unfolding grow_refusal sound sound_in tree_in first_bits rooms_of checks_of
 checks_are c a v = refl
 
 -- "the outcome follows from the record, the string in area 0, the level, the label and the lengths alone"
-module _ (c c' : Counts) (v b : ℕ) (a a' z z' : Lent) (r r' : Built) (s : SameString c c' a a') (g : GrowsTo c v b a z r) (g' : GrowsTo c' v b a' z' r') where
+module _ (c c' : Counts) (v b : ℕ) (a a' z z' : Lent) (r r' : Made) (s : SameString c c' a a') (g : GrowsTo c v b a z r) (g' : GrowsTo c' v b a' z' r') where
   same_checks : grow_refusal (tree_in c) a v ≡ grow_refusal (tree_in c') a' v
   same_checks =
       checks_are c a v ∙ (λ i. checks_of v (s.nodes i) (s.bits i) (s.string i) (s.lengths i)) ∙ sym (checks_are c' a' v)
@@ -98,7 +98,7 @@ module _ (c c' : Counts) (v b : ℕ) (a a' z z' : Lent) (r r' : Built) (s : Same
   replies (inr e) = reply c v b a z r g (some e.0) e.1 ∙ sym (reply c' v b a' z' r' g' (some e.0) (sym same_checks ∙ e.1))
 
   same_answer : r ≡ r'
-  same_answer = answers_agree z z' r r' g.counts g'.counts (replies (which (grow_refusal (tree_in c) a v)))
+  same_answer = answers_agree z z' r r' g.sized g'.sized (replies (which (grow_refusal (tree_in c) a v)))
 
   labels_in : a.labels ≡ a'.labels → (grow_refusal (tree_in c) a v ≡ none) ⊎ ((x : Refusal) × (grow_refusal (tree_in c) a v ≡ some x)) → z.labels ≡ z'.labels
   unfolding new_areas as_stood
@@ -118,7 +118,7 @@ module _ (c c' : Counts) (v b : ℕ) (a a' z z' : Lent) (r r' : Built) (s : Same
         answer = same_answer;
         areas = λ f.
             here.areas f ∙ (λ i. written (s.lengths i) (tower 4 (string (levels_of (s.string i) ++ v ∷ []))))
-            ∙ sym (there.areas (sym (ap (λ (x : Built). is_made x.verdict) same_answer) ∙ f));
+            ∙ sym (there.areas (sym (ap (λ (x : Made). is_ok x) same_answer) ∙ f));
         labels = λ h. labels_in h (which (grow_refusal (tree_in c) a v));
         scratch = here.scratch ∙ ap (λ (x : Rooms). replicate x.scratch 0) s.lengths ∙ sym there.scratch;
       }

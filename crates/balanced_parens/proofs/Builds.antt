@@ -1,13 +1,12 @@
 -- The ways out of `build`.
-use mathlib.Core.Path.{◌≡◌, refl, sym, ap, ◌∙◌}
+use mathlib.Core.Path.{◌≡◌, refl, sym, ap, ◌∙◌, subst}
 use mathlib.Core.Bool.{true, false}
 use mathlib.Core.Logic.{◌⊎◌, inl, inr}
 use mathlib.Core.Option.{Option, none, some}
 use mathlib.Core.List.{List, [], ◌∷◌, ◌++◌}
 use Prim.Native.Nat.{ℕ, ◌≤◌}
 use native.Mathlib.Omega.{arith}
-use lib.ListN.{length, replicate, length-replicate}
-use lib.Seq.{paste}
+use lib.ListN.{length, drop, replicate, length-replicate}
 use borrow.Author.Tests.{eq-eqb, ne_eqb}
 use Rattle.meaning.specs.Answers.{Refusal, is, refused}
 use Rattle.meaning.specs.String.{string}
@@ -20,12 +19,13 @@ use Rattle.meaning.proofs.Accepted.{accepted_exactly}
 use Rattle.pioneers.specs.Placed.{list_checks}
 use Rattle.parentheses.specs.Writes.{held_at}
 use Rattle.parentheses.specs.Raises.{Raising, raising, string_checks}
-use Rattle.balanced_parens.specs.Said.{is_made, said, refused_of}
+use Rattle.std.specs.Prelude.{Err, is_ok}
+use Rattle.refusal.specs.declared.Refusal.TheVariants.{Lengths}
+use Rattle.balanced_parens.specs.Said.{said}
 use Rattle.balanced_parens.specs.Areas.{lent_at, after, staged_in, Blank, Cleared}
 use Rattle.balanced_parens.specs.Contract.{Builds, Staged}
-use Rattle.balanced_parens.specs.declared.answer.Built.{Built}
-use Rattle.balanced_parens.specs.declared.answer.Verdict.TheVariants as verdict
-use Rattle.balanced_parens.proofs.Replies.{refused_says, refused_counts, made_tree, not_tree}
+use Rattle.balanced_parens.specs.Demands.{Made}
+use Rattle.balanced_parens.proofs.Outcome.{made_tree, not_tree}
 use Rattle.balanced_parens.proofs.Labels.{labels_filled}
 
 -- one check after another, some of them first
@@ -45,7 +45,7 @@ unfolding checks list_checks string_checks
 parted vs rooms = first_append (list_checks vs rooms.scratch) (string_checks (string vs) (length vs) rooms)
 
 -- a build into areas that are zero
-module _ (vs bs w b m g u s : List ℕ) (h : (length vs ≡ length bs) × Blank w b m g u) (o : Built) (w' b' m' g' s' : List ℕ)
+module _ (vs bs w b m g u s : List ℕ) (h : (length vs ≡ length bs) × Blank w b m g u) (o : Made) (w' b' m' g' s' : List ℕ)
     (q : Staged (staged_in (first_of (list_checks vs (length s))) (string vs) (length vs) (held_at w b m g) (length u) (length s)) (held_at w' b' m' g') s' o) where
   abbrev lent : Lent
   lent = lent_at w b m g u s
@@ -68,9 +68,9 @@ module _ (vs bs w b m g u s : List ℕ) (h : (length vs ≡ length bs) × Blank 
   unfolding staged_in stage tree_of rooms_of
   staged = q.outcome ∙ ap stage (sym refusal_is)
 
-  pub build_refused : is_made o.verdict ≡ false → Builds vs bs lent (lent_at w' b' m' g' u s') o
+  pub build_refused : is_ok o ≡ false → Builds vs bs lent (lent_at w' b' m' g' u s') o
   unfolding build stage zeroed rooms_of
-  build_refused f = record { outcome = go (which (refusal vs bs rooms)); counts = q.counts }
+  build_refused f = record { outcome = go (which (refusal vs bs rooms)); sized = q.sized }
     where
       go : (refusal vs bs rooms ≡ none) ⊎ ((r : Refusal) × (refusal vs bs rooms ≡ some r)) → after (said o) (lent_at w' b' m' g' u s') ≡ build vs bs rooms
       go (inl n) = absurd (not_tree o f (tree_of vs) (ap (λ (x : Raising). x.reply) (staged ∙ if_none _ _ n)))
@@ -79,7 +79,7 @@ module _ (vs bs w b m g u s : List ℕ) (h : (length vs ≡ length bs) × Blank 
           ∙ (λ i. after (refused n.0) (lent_at (h.1.words i) (h.1.bytes i) (h.1.middle i) (h.1.large i) (h.1.labels i) (replicate (length s) 0)))
           ∙ sym (if_some _ _ n.0 n.1)
 
-  module _ (f : is_made o.verdict ≡ true) where
+  module _ (f : is_ok o ≡ true) where
     none_refuses : refusal vs bs rooms ≡ none
     unfolding stage
     none_refuses = go (which (refusal vs bs rooms))
@@ -92,29 +92,29 @@ module _ (vs bs w b m g u s : List ℕ) (h : (length vs ≡ length bs) × Blank 
     unfolding rooms_of
     build_labels = omega (arith, h.0, ((accepted_exactly vs bs rooms).0 none_refuses).label)
 
-    pub build_made : (u' : List ℕ) → u' ≡ paste u 0 bs (length bs) → Builds vs bs lent (lent_at w' b' m' g' u' s') o
+    pub build_made : (front : List ℕ) → front ≡ bs → Builds vs bs lent (lent_at w' b' m' g' (front ++ drop (length bs) u) s') o
     unfolding build stage lent_of rooms_of
-    build_made u' c =
+    build_made front c =
         record {
           outcome =
-              ap (λ (x : Raising). after x.reply (record { held = x.held; labels = u'; scratch = x.scr })) (staged ∙ if_none _ _ none_refuses)
+              ap (λ (x : Raising). after x.reply (record { held = x.held; labels = front ++ drop (length bs) u; scratch = x.scr })) (staged ∙ if_none _ _ none_refuses)
               ∙ ap (λ (y : List ℕ). after (is (tree_of vs)) (record { held = written rooms (tower 4 (string vs)); labels = y; scratch = replicate (length s) 0 }))
-              (labels_filled bs u u u' build_labels h.1.labels c)
+              (labels_filled bs u u front h.1.labels c)
               ∙ sym (if_none _ _ none_refuses);
-          counts = q.counts;
+          sized = q.sized;
         }
 
 -- a build, once areas 0 to 4 are zeroed
 module _ (vs bs w b m g u s w' b' m' g' u' : List ℕ) (z : Cleared w b m g u w' b' m' g' u') where
-  pub build_lengths : ¬ (length vs ≡ length bs) → (s' : List ℕ) → s' ≡ replicate (length s) 0 → (o : Built) → o ≡ refused_of verdict.Lengths
-      → Builds vs bs (lent_at w b m g u s) (lent_at w' b' m' g' u' s') o
+  pub build_lengths : ¬ (length vs ≡ length bs) → (s' : List ℕ) → s' ≡ replicate (length s) 0
+      → Builds vs bs (lent_at w b m g u s) (lent_at w' b' m' g' u' s') (Err Lengths)
   unfolding build zeroed refusal first_of check rooms_of
-  build_lengths h s' zs o q =
+  build_lengths h s' zs =
       record {
         outcome =
-            (λ i. after (refused_says verdict.Lengths _ refl o q i) (lent_at (z.words i) (z.bytes i) (z.middle i) (z.large i) (z.labels i) (zs i)))
+            (λ i. after (said (Err Lengths)) (lent_at (z.words i) (z.bytes i) (z.middle i) (z.large i) (z.labels i) (zs i)))
             ∙ sym (if_some _ _ _ (ap (λ x. first_of (check x 1 (0 ∷ []) ∷ checks vs (rooms_of (lent_at w b m g u s)))) (ne_eqb _ _ h)));
-        counts = refused_counts verdict.Lengths o q;
+        sized = tt;
       }
 
   kept : (k : ℕ) (x : List ℕ) → x ≡ replicate k 0 → length x ≡ k
@@ -127,9 +127,10 @@ module _ (vs bs w b m g u s w' b' m' g' u' : List ℕ) (z : Cleared w b m g u w'
   build_ready e =
       (e, record { words = zeros (length w) w' z.words; bytes = zeros (length b) b' z.bytes; middle = zeros (length m) m' z.middle; large = zeros (length g) g' z.large; labels = zeros (length u) u' z.labels })
 
-  pub build_whole : (x : Lent) (o : Built) → Builds vs bs (lent_at w' b' m' g' u' s) x o → Builds vs bs (lent_at w b m g u s) x o
+  pub build_whole : (x y : Lent) (o : Made) → Builds vs bs (lent_at w' b' m' g' u' s) x o → x ≡ y → Builds vs bs (lent_at w b m g u s) y o
   unfolding rooms_of
-  build_whole x o q =
+  build_whole x y o q r =
+      subst (λ t. Builds vs bs (lent_at w b m g u s) t o) r (
       let same : rooms_of (lent_at w' b' m' g' u' s) ≡ rooms_of (lent_at w b m g u s) = λ i.
       record {
         words = kept (length w) w' z.words i;
@@ -139,4 +140,5 @@ module _ (vs bs w b m g u s w' b' m' g' u' : List ℕ) (z : Cleared w b m g u w'
         labels = kept (length u) u' z.labels i;
         scratch = length s;
       } in
-      record { outcome = q.outcome ∙ ap (build vs bs) same; counts = q.counts }
+      record { outcome = q.outcome ∙ ap (build vs bs) same; sized = q.sized }
+      )

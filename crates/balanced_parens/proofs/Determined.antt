@@ -6,36 +6,15 @@ use Rattle.meaning.specs.Build.{Lent, After}
 use Rattle.meaning.specs.Determined.{Determined}
 use Rattle.balanced_parens.specs.Said.{said}
 use Rattle.balanced_parens.specs.Areas.{after}
-use Rattle.balanced_parens.specs.Contract.{CountsIn}
-use Rattle.balanced_parens.specs.declared.answer.Built.{Built}
-use Rattle.balanced_parens.proofs.Agree.{outcomes_agree, built_agree}
-use Rattle.balanced_parens.proofs.answer.is_made.Reads as is_made
-use Rattle.balanced_parens.proofs.answer.is_made.Kinds as is_made_kinds
-use Rattle.balanced_parens.proofs.answer.refuse.Reads as refuse
-use Rattle.balanced_parens.proofs.answer.refuse.Kinds as refuse_kinds
-use Rattle.balanced_parens.proofs.answer.answer.Reads as answer
-use Rattle.balanced_parens.proofs.answer.answer.Kinds as answer_kinds
+use Rattle.record.specs.Record.{SizedIn}
+use Rattle.balanced_parens.specs.Demands.{Made}
+use Rattle.balanced_parens.proofs.Agree.{outcomes_agree}
 use Rattle.balanced_parens.proofs.builder.zero_areas.Reads as zero_areas
 use Rattle.balanced_parens.proofs.builder.zero_areas.Kinds as zero_areas_kinds
 use Rattle.balanced_parens.proofs.builder.build.Reads as build
 use Rattle.balanced_parens.proofs.builder.build.Kinds as build_kinds
 use Rattle.balanced_parens.proofs.growth.grow.Reads as grow
 use Rattle.balanced_parens.proofs.growth.grow.Kinds as grow_kinds
-
--- the verdict, and an answer with counts of nothing
-pub is_made_determined : Determined _ is_made_kinds.ps is_made_kinds.r is_made.Asked is_made.Learnt (Unit {0}) (λ κs e. tt)
-is_made_determined = record { asks_nothing = λ κs a. tt; agree = λ κs a z z' e e' p q. (p ∙ sym q, refl) }
-
-pub refuse_determined : Determined _ refuse_kinds.ps refuse_kinds.r refuse.Asked refuse.Learnt (Unit {0}) (λ κs e. tt)
-refuse_determined = record { asks_nothing = λ κs a. tt; agree = λ κs a z z' e e' p q. (p ∙ sym q, refl) }
-
--- the level builder's answer, told again
-pub answer_determined : Determined _ answer_kinds.ps answer_kinds.r answer.Asked answer.Learnt (Unit {0}) (λ κs e. tt)
-answer_determined =
-    record {
-      asks_nothing = λ κs a. tt;
-      agree = λ κs a z z' e e' p q. (built_agree z z' p.counts q.counts (p.reply ∙ sym q.reply), refl);
-    }
 
 -- zeros
 pub zero_areas_determined : Determined _ zero_areas_kinds.ps zero_areas_kinds.r zero_areas.Asked zero_areas.Learnt
@@ -65,7 +44,7 @@ zero_areas_determined =
 abbrev six : Lent → List ℕ × List ℕ × List ℕ × List ℕ × List ℕ × List ℕ
 six a = (a.held.words, a.held.bytes, a.held.middle, a.held.large, a.labels, a.scratch)
 
-six_agree : {x : After} {y y' : Lent} (r r' : Built) → CountsIn r → CountsIn r' → after (said r) y ≡ x → after (said r') y' ≡ x → (r ≡ r') × (six y ≡ six y')
+six_agree : {x : After} {y y' : Lent} (r r' : Made) → SizedIn r → SizedIn r' → after (said r) y ≡ x → after (said r') y' ≡ x → (r ≡ r') × (six y ≡ six y')
 six_agree {x} {y} {y'} r r' c c' e e' = let g = outcomes_agree y y' r r' x c c' e e' in (g.0, ap six g.1)
 
 pub build_determined : Determined _ build_kinds.ps build_kinds.r build.Asked build.Learnt
@@ -80,7 +59,7 @@ pub build_determined : Determined _ build_kinds.ps build_kinds.r build.Asked bui
 build_determined =
     record {
       asks_nothing = λ κs a. tt;
-      agree = λ κs a z z' e e' p q. six_agree z z' p.counts q.counts p.outcome q.outcome;
+      agree = λ κs a z z' e e' p q. six_agree z z' p.sized q.sized p.outcome q.outcome;
     }
 
 pub grow_determined : Determined _ grow_kinds.ps grow_kinds.r grow.Asked grow.Learnt
@@ -95,5 +74,5 @@ pub grow_determined : Determined _ grow_kinds.ps grow_kinds.r grow.Asked grow.Le
 grow_determined =
     record {
       asks_nothing = λ κs a. tt;
-      agree = λ κs a z z' e e' p q. six_agree z z' p.counts q.counts p.outcome q.outcome;
+      agree = λ κs a z z' e e' p q. six_agree z z' p.sized q.sized p.outcome q.outcome;
     }

@@ -1,4 +1,3 @@
-pub mod Replies
 pub mod Stages
 pub mod Lists
 pub mod Labels

@@ -6,9 +6,9 @@ use Prim.Native.Nat.{ℕ, ◌+◌, ◌-◌, ◌*◌, ◌/◌, ◌%◌, ◌≤◌
 use native.Mathlib.Decide.{dec_le, dec_lt}
 use native.Mathlib.Omega.{arith}
 use lib.ListN.{length, get_or, get_or-eq_default}
-use Rattle.fixnum.specs.Said.{said_found}
-use Rattle.fixnum.specs.declared.Found.{Found}
-use Rattle.fixnum.specs.declared.Found.TheVariants as found
+use Rattle.std.specs.Prelude.{Option, Some, None, Result, Ok, Err}
+use Rattle.refusal.specs.declared.Refusal.{Refusal}
+use Rattle.refusal.specs.Said.{found_number}
 use Rattle.meaning.specs.Answers.{Answer, is, nothing}
 use Rattle.meaning.specs.Plain.{side, plain_succ}
 use Rattle.meaning.specs.Nearest.{IsSucc}
@@ -43,39 +43,39 @@ module _ {l : List Bool} {i q o x : ℕ} (s : Ahead l i q o) (w : Marked l q x) 
           let z : 64 * q + (m - 64 * q) ≡ m = omega arith in
           ap (λ k. get_or l k false) (sym z) ∙ sym (w.bits (m - 64 * q) (omega arith)) ∙ h (m - 64 * q) (omega arith) (omega arith)
 
-module _ {l : List Bool} {i q o x : ℕ} (s : Ahead l i q o) (w : Marked l q x) (f : Found) (e : said_found f ≡ word_succ true 64 x o) where
-  met_in : (j : ℕ) → f ≡ found.At j → IsSucc (word_bits 64 x) o (is j)
-  met_in j p = in_word_lem x o s.within (is j) (ap said_found (sym p) ∙ e)
+module _ {l : List Bool} {i q o x : ℕ} (s : Ahead l i q o) (w : Marked l q x) (f : Result (Option ℕ) Refusal) (e : found_number f ≡ word_succ true 64 x o) where
+  met_in : (j : ℕ) → f ≡ Ok (Some j) → IsSucc (word_bits 64 x) o (is j)
+  met_in j p = in_word_lem x o s.within (is j) (ap found_number (sym p) ∙ e)
 
-  met_one : (j : ℕ) → f ≡ found.At j → (j < 64) × (get_or l (64 * q + j) false ≡ true)
+  met_one : (j : ℕ) → f ≡ Ok (Some j) → (j < 64) × (get_or l (64 * q + j) false ≡ true)
   unfolding IsSucc
   met_one j p =
       let h = met_in j p in
       let b : j < 64 = omega (arith, in_length (word_bits 64 x) j h.0, length_word 64 x) in
       (b, sym (w.bits j b) ∙ h.0)
 
-  pub met_lt : (j : ℕ) → f ≡ found.At j → 64 * q + j < length l
+  pub met_lt : (j : ℕ) → f ≡ Ok (Some j) → 64 * q + j < length l
   met_lt j p = in_length l (64 * q + j) (met_one j p).1
 
-  pub met : (j : ℕ) → f ≡ found.At j → is (64 * q + j) ≡ plain_succ l i
+  pub met : (j : ℕ) → f ≡ Ok (Some j) → is (64 * q + j) ≡ plain_succ l i
   unfolding IsSucc
   met j p =
       let h = met_in j p in
       let b = met_one j p in
       succ_only l i (is (64 * q + j)) (b.1, omega (arith, s.from, h.1), none_to s w j (omega (arith, b.0)) h.2)
 
-  pub passed : ((j : ℕ) → f ≡ found.At j → ⊥) → Ahead l i (q + 1) 0
+  pub passed : ((j : ℕ) → f ≡ Ok (Some j) → ⊥) → Ahead l i (q + 1) 0
   unfolding IsSucc
-  passed t = go f t (in_word_lem x o s.within (said_found f) e)
+  passed t = go f t (in_word_lem x o s.within (found_number f) e)
     where
-      go : (f : Found) → ((j : ℕ) → f ≡ found.At j → ⊥) → IsSucc (word_bits 64 x) o (said_found f) → Ahead l i (q + 1) 0
-      go (found.At j) z h = absurd (z j refl)
-      go found.Nothing z h = record {
+      go : (f : Result (Option ℕ) Refusal) → ((j : ℕ) → f ≡ Ok (Some j) → ⊥) → IsSucc (word_bits 64 x) o (found_number f) → Ahead l i (q + 1) 0
+      go (Ok (Some j)) z h = absurd (z j refl)
+      go (Ok None) z h = record {
         within = omega arith;
         from = omega (arith, s.from, s.within);
         none = λ m a b. none_to s w 64 (omega arith) (λ k p q. h k p) m a (omega arith);
       }
-      go (found.Place p) z h = absurd h
+      go (Err p) z h = absurd h
 
 pub none_ahead : (l : List Bool) {i q o : ℕ} → Ahead l i q o → length l ≤ 64 * q → nothing ≡ plain_succ l i
 unfolding IsSucc

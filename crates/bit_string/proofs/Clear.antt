@@ -152,12 +152,19 @@ module _ (ws : List ℕ) (a e : ℕ) where
         go i (no l) (inl m) = s.done i m
         go i (no l) (inr m) = was_at i (omega arith) ∙ sym (cleared_out ws a (e - a) i (inr (omega (arith, s.order))))
 
-    pub clear_ended : length vs ≤ q → vs ≡ cleared ws a (e - a)
+    clear_ended : length vs ≤ q → vs ≡ cleared ws a (e - a)
     clear_ended h = all (λ i l. inl (omega arith))
 
-    pub clear_past : e / 64 < q → vs ≡ cleared ws a (e - a)
+    clear_past : e / 64 < q → vs ≡ cleared ws a (e - a)
     clear_past h = all (λ i l. either i (dec_le e i))
       where
         either : (i : ℕ) → Dec (e ≤ i) → (i < 64 * q) ⊎ (e ≤ i)
         either i (yes d) = inr d
         either i (no d) = inl (omega arith)
+
+    pub clear_over : (m : ℕ) → m ≡ min (length ws) (e / 64 + 1) → m ≤ q → vs ≡ cleared ws a (e - a)
+    clear_over m p h = go (dec_lt (e / 64) q)
+      where
+        go : Dec (e / 64 < q) → vs ≡ cleared ws a (e - a)
+        go (yes l) = clear_past l
+        go (no l) = clear_ended (omega (arith, s.same))

@@ -3,6 +3,7 @@ pub mod Behind
 pub mod Ahead
 pub mod Clear
 pub mod Stepped
+pub mod Checked
 pub mod Agree
 pub mod Determined
 pub mod Plainly

@@ -1,4 +1,3 @@
 pub mod Part
 pub mod Said
 pub mod Indices
-pub mod Determined

@@ -1,10 +1,8 @@
 -- What the private functions that work by words hold.
-use Rattle.std.specs.Prelude.{◌≡◌, Bool, true, false, List, ◌⊎◌, ℕ, suc, ◌+◌, ◌*◌, ◌≤◌, ◌<◌, get_or, take}
+use Rattle.std.specs.Prelude.{◌≡◌, Bool, true, false, List, ◌⊎◌, ℕ, suc, ◌+◌, ◌*◌, ◌≤◌, ◌<◌, get_or, take, Result, Ok, Err}
 use Rattle.meaning.specs.Bits.{opens, bit}
 use Rattle.meaning.specs.Plain.{side}
 use Rattle.meaning.specs.Word.{word_bits}
-use Rattle.bit_string.specs.declared.find.Turn.{Turn}
-use Rattle.bit_string.specs.declared.find.Turn.TheVariants as turn
 
 -- the ones of r are the ones of x, or its zeros
 pub record Sided (b : Bool) (x r : ℕ) : Type 0 where
@@ -14,10 +12,10 @@ pub record Sided (b : Bool) (x r : ℕ) : Type 0 where
 pub record Marked (l : List Bool) (q x : ℕ) : Type 0 where
   pub bits : (j : ℕ) → j < 64 → get_or (word_bits 64 x) j false ≡ get_or l (64 * q + j) false
 
--- the k-th one of a word's bits, or what is left of k behind them
-abbrev pub TurnIs : List Bool → ℕ → Turn → Type 0
-TurnIs l k (turn.At j) = (j < 64) × (get_or l j false ≡ true) × (suc (opens (take j l)) ≡ k)
-TurnIs l k (turn.Rest m) = (k ≡ 0) ⊎ ((opens l + m ≡ k) × (0 < m))
+-- the place of the k-th one of a word's bits, or what is left of k behind them
+abbrev pub NthIn : List Bool → ℕ → Result ℕ ℕ → Type 0
+NthIn l k (Ok j) = (j < 64) × (get_or l j false ≡ true) × (suc (opens (take j l)) ≡ k)
+NthIn l k (Err m) = (k ≡ 0) ⊎ ((opens l + m ≡ k) × (0 < m))
 
 -- the bits of word q from place a to before place e are zeros in r, the others those of x
 pub record Cut (a e q x r : ℕ) : Type 0 where

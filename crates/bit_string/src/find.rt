@@ -1,114 +1,123 @@
 // The ones or the zeros counted and found, word by word, and the naive pred and succ.
-ghost use Rattle.std.specs.Prelude.{◌≡◌, true, false, take};
-ghost use Rattle.meaning.specs.Bits.{opens, bits_of};
-ghost use Rattle.meaning.specs.Plain.{side, plain_select, plain_pred, plain_succ};
+ghost use Rattle.std.specs.Prelude.{◌≡◌, true, false};
+ghost use Rattle.meaning.specs.Bits.{bits_of};
+ghost use Rattle.meaning.specs.Plain.{side, plain_succ};
 ghost use Rattle.meaning.specs.Word.{word_bits};
-ghost use Rattle.ops.specs.Said.{said_spot};
-ghost use Rattle.bit_string.specs.Part.{TurnIs};
+ghost use Rattle.refusal.specs.Said.{only_found};
+ghost use Rattle.bit_string.specs.Part.{Marked, NthIn};
 
-use crate::parts::{low, marked};
-use fixnum::{Fixnum64, Found};
-use ops::{Spot, is_at, upto};
+use crate::BitString;
+use crate::parts::sided;
+use fixnum::Fixnum;
+use ops::{Fid, upto};
+use words::{low, word_at};
 
-// A turn of select: the place in the word, or what is left to count.
-#[derive(Clone, Copy)]
-pub enum Turn {
-    At(usize),
-    Rest(usize),
-}
-
-// How many stand before place e.
-pub(crate) fn ones_before(words: &[u64], n: usize, e: usize, one: bool) -> usize
-    ensures { result ≡ opens (take e (side one (bits_of words.now n))) }
+// The place of the k-th one of a word, or what is left of k behind it.
+#[tactic(auto, using(crate::proofs::Behind::nth_rest))]
+fn nth_in(x: u64, k: usize) -> Result<usize, usize>
+    ensures { NthIn (word_bits 64 x) k result }
 {
-    let whole = e / 64;
-    let mut r: usize = 0;
-    let mut q: usize = 0;
-    while q < whole {
-        r += Fixnum64(marked(words, n, q, one)).pop_count();
-        q += 1;
-    }
-    let last = marked(words, n, whole, one);
-    r + Fixnum64(low(last, e % 64)).pop_count()
-}
-
-// The k-th one of a word, or what is left of k behind it.
-fn select_turn(x: u64, k: usize) -> Turn
-    ensures { TurnIs (word_bits 64 x) k result }
-{
-    let ones = Fixnum64(x).pop_count();
+    let ones = Fixnum(x).pop_count();
     if ones < k {
-        return Turn::Rest(k - ones);
+        return Err(k - ones);
     }
-    match Fixnum64(x).select_one(k) {
-        Found::At(j) => Turn::At(j),
-        _ => Turn::Rest(0),
+    Fixnum(x).select_one(k).ok_or(0)
+}
+
+impl BitString<'_> {
+    // The ones of word q before the length, or its zeros, as ones.
+    #[tactic(auto, using(crate::proofs::Part::marked_none, crate::proofs::Part::marked_whole, crate::proofs::Part::marked_part))]
+    fn marked(&self, q: usize, one: bool) -> u64
+        ensures { Marked (side one (bits_of self.now.words.now self.now.len)) q result }
+    {
+        let whole = self.len / 64;
+        if whole < q {
+            return 0;
+        }
+        let x = sided(word_at(self.words, q), one);
+        if q < whole { x } else { low(x, self.len % 64) }
+    }
+
+    // The naive succ, of the zeros: the place itself, or select of one more than its rank.
+    #[tactic(auto, using(ops::proofs::Naive::naive_here, ops::proofs::Naive::naive_next, meaning::proofs::Sought::succ_past, meaning::proofs::BitString::length_marks))]
+    fn next_zero(&self, i: usize) -> Option<usize>
+        ensures { only_found result ≡ plain_succ (side false (bits_of self.now.words.now self.now.len)) i }
+    {
+        if self.len <= i {
+            return None;
+        }
+        let k = self.counted(i + 1, false);
+        let here = self.nth(k, false);
+        if here == Some(i) {
+            return here;
+        }
+        self.nth(k + 1, false)
+    }
+
+    // The next one, word by word.
+    fn next_one(&self, i: usize) -> Option<usize>
+        ensures { only_found result ≡ plain_succ (side true (bits_of self.now.words.now self.now.len)) i }
+    {
+        let mut from = i % 64;
+        for q in i / 64..=self.len / 64 {
+            if let Ok(Some(j)) = Fixnum(self.marked(q, true)).succ_one(from) {
+                return Some(64 * q + j);
+            }
+            from = 0;
+        }
+        None
     }
 }
 
-// The place of the k-th.
-pub(crate) fn select(words: &[u64], n: usize, k: usize, one: bool) -> Spot
-    ensures { said_spot result ≡ plain_select (side one (bits_of words.now n)) k }
-{
-    if k == 0 {
-        return Spot::Nothing;
+impl Fid for BitString<'_> {
+    ghost words = { λ s. s.words.now };
+
+    ghost len = { λ s. s.len };
+
+    fn lent_words(&self) -> usize {
+        self.words.len()
     }
-    let last = n / 64;
-    let mut left = k;
-    let mut q: usize = 0;
-    while q <= last {
-        let t = select_turn(marked(words, n, q, one), left);
-        match t {
-            Turn::At(j) => {
-                let place = 64 * q + j;
-                return Spot::At(place);
-            }
-            Turn::Rest(m) => {
-                left = m;
+
+    fn len(&self) -> usize {
+        self.len
+    }
+
+    #[tactic(auto, using(crate::proofs::Part::marks_word, crate::proofs::Part::marks_end), unfolding(meaning::specs::Bits::opens))]
+    fn counted(&self, e: usize, one: bool) -> usize {
+        let whole = e / 64;
+        let mut r = 0;
+        for q in 0..whole {
+            r += Fixnum(self.marked(q, one)).pop_count();
+        }
+        r + Fixnum(low(self.marked(whole, one), e % 64)).pop_count()
+    }
+
+    fn nth(&self, k: usize, one: bool) -> Option<usize> {
+        if k == 0 {
+            return None;
+        }
+        let mut left = k;
+        for q in 0..=self.len / 64 {
+            match nth_in(self.marked(q, one), left) {
+                Ok(j) => return Some(64 * q + j),
+                Err(rest) => left = rest,
             }
         }
-        q += 1;
+        None
     }
-    Spot::Nothing
-}
 
-// The naive pred: select of the place's rank.
-pub(crate) fn pred(words: &[u64], n: usize, i: usize, one: bool) -> Spot
-    ensures { said_spot result ≡ plain_pred (side one (bits_of words.now n)) i }
-{
-    let k = ones_before(words, n, upto(n, i), one);
-    select(words, n, k, one)
-}
-
-// The naive succ, of the zeros: the place itself, or select of one more than its rank.
-pub(crate) fn next_zero(words: &[u64], n: usize, i: usize) -> Spot
-    ensures { said_spot result ≡ plain_succ (side false (bits_of words.now n)) i }
-{
-    if n <= i {
-        return Spot::Nothing;
+    // The naive pred: select of the place's rank.
+    #[tactic(auto, using(ops::proofs::Naive::naive_pred))]
+    fn last(&self, i: usize, one: bool) -> Option<usize> {
+        let k = self.counted(upto(self.len, i), one);
+        self.nth(k, one)
     }
-    let k = ones_before(words, n, i + 1, false);
-    if is_at(select(words, n, k, false), i) {
-        return Spot::At(i);
-    }
-    select(words, n, k + 1, false)
-}
 
-// The next one, word by word.
-pub(crate) fn next_one(words: &[u64], n: usize, i: usize) -> Spot
-    ensures { said_spot result ≡ plain_succ (side true (bits_of words.now n)) i }
-{
-    let last = n / 64;
-    let mut q = i / 64;
-    let mut from = i % 64;
-    while q <= last {
-        let f = Fixnum64(marked(words, n, q, true)).succ_one(from);
-        if let Found::At(j) = f {
-            let place = 64 * q + j;
-            return Spot::At(place);
+    fn first(&self, i: usize, one: bool) -> Option<usize> {
+        if one {
+            self.next_one(i)
+        } else {
+            self.next_zero(i)
         }
-        q += 1;
-        from = 0;
     }
-    Spot::Nothing
 }

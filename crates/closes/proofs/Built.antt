@@ -13,9 +13,9 @@ use Rattle.meaning.specs.Questions.{counts_fit, lent_at, at_bit, close_in}
 use Rattle.meaning.proofs.Questions.{close_in_matches}
 use Rattle.record.specs.declared.Counts.{Counts}
 use Rattle.record.specs.Record.{tree_in}
-use Rattle.closes.specs.Said.{said}
-use Rattle.closes.specs.declared.Closed.{Closed}
-use Rattle.closes.specs.declared.Closed.TheVariants as closed
+use Rattle.std.specs.Prelude.{Result, Ok}
+use Rattle.refusal.specs.declared.Refusal.{Refusal}
+use Rattle.refusal.specs.Said.{said_number}
 use Rattle.closes.proofs.Agree.{closes_agree}
 
 -- a question does not look at scratch
@@ -24,12 +24,12 @@ unfolding close_in at_bit counts_fit
 close_lent t a p = refl
 
 pub get_close_matches : (vs bs : List ℕ) (rooms : Rooms) → Accepted vs bs rooms → (c : Counts) → tree_in c ≡ tree_of vs
-    → (p : ℕ) → get_or (string vs) p false ≡ true → (r : Closed)
-    → said r
+    → (p : ℕ) → get_or (string vs) p false ≡ true → (r : Result ℕ Refusal)
+    → said_number r
     ≡ close_in (tree_in c)
     (lent_at (lent_of vs bs rooms).held.words (lent_of vs bs rooms).held.bytes (lent_of vs bs rooms).held.middle (lent_of vs bs rooms).held.large (lent_of vs bs rooms).labels)
     p
-    → (d : ℕ) × (r ≡ closed.At d) × IsClose (string vs) p d
+    → (d : ℕ) × (r ≡ Ok d) × IsClose (string vs) p d
 get_close_matches vs bs rooms a c e p o r f =
     let m = close_in_matches vs bs rooms a p o in
-    (m.0, closes_agree r (closed.At m.0) (f ∙ close_lent (tree_in c) (lent_of vs bs rooms) p ∙ ap (λ t. close_in t (lent_of vs bs rooms) p) e ∙ m.1), m.2)
+    (m.0, closes_agree r (Ok m.0) (f ∙ close_lent (tree_in c) (lent_of vs bs rooms) p ∙ ap (λ t. close_in t (lent_of vs bs rooms) p) e ∙ m.1), m.2)

@@ -8,8 +8,8 @@ use Rattle.closes.proofs.get.Reads as get
 use Rattle.closes.proofs.get.Kinds as get_kinds
 use Rattle.closes.proofs.fit.counts_fit.Reads as counts_fit
 use Rattle.closes.proofs.fit.counts_fit.Kinds as counts_fit_kinds
-use Rattle.closes.proofs.level.open_at.Reads as open_at
-use Rattle.closes.proofs.level.open_at.Kinds as open_at_kinds
+use Rattle.closes.proofs.level.Bits.open_at.Reads as open_at
+use Rattle.closes.proofs.level.Bits.open_at.Kinds as open_at_kinds
 
 pub get_close_determined : Determined _ get_close_kinds.ps get_close_kinds.r get_close.Asked get_close.Learnt (Unit {0}) (λ κs e. tt)
 get_close_determined = record { asks_nothing = λ κs a. tt; agree = λ κs a z z' e e' p q. (closes_agree z z' (p ∙ sym q), refl) }

@@ -13,10 +13,10 @@ use Rattle.meaning.specs.Bits.{bit_at, bits_of}
 use Rattle.meaning.specs.Close.{in_word, excess, left_bit, left_from, from_close, less, and_then, test, close_at}
 use Rattle.meaning.proofs.Inside.{from_inside}
 use Rattle.meaning.proofs.Stored.{length_bits, bits_at}
-use Rattle.closes.specs.Steps.{step_of, Small, Finds, counted, reached, or_else, NearIs}
-use Rattle.closes.specs.declared.level.Near.TheVariants as near
-use Rattle.closes.specs.declared.level.Step.{Step}
-use Rattle.closes.specs.declared.level.Step.TheVariants as step
+use Rattle.std.specs.Prelude.{SomeIff, Option as Maybe, None, Some, Ok, Err}
+use Rattle.refusal.specs.Said.{option_of}
+use Rattle.refusal.specs.declared.Refusal.TheVariants.{Broken}
+use Rattle.closes.specs.Steps.{Small, Finds, counted, NearIs}
 
 -- a bit of the level
 pub open_in : (ws : List ℕ) (n i : ℕ) (b : Bool) → i < n → b ≡ bit_at ws i → b ≡ get_or (bits_of ws n) i false
@@ -36,19 +36,21 @@ pub count_up : (b : Bool) (n : ℕ) → b ≡ true → some (n + 1) ≡ counted 
 unfolding counted
 count_up b n e = ap some (add-one n) ∙ ap (λ x. counted x n) (sym e)
 
-pub count_zero : (b : Bool) (n : ℕ) → b ≡ false → n ≡ 0 → none ≡ counted b n
+pub count_down : (b : Bool) (n : ℕ) (r : Maybe ℕ) → b ≡ false → SomeIff r (1 ≤ n) (n - 1) → option_of r ≡ counted b n
 unfolding counted less
-count_zero b n e f = sym (ap₂ counted e f)
+count_down b n r e f = go n r f ∙ ap (λ x. counted x n) (sym e)
+  where
+    go : (n : ℕ) (r : Maybe ℕ) → SomeIff r (1 ≤ n) (n - 1) → option_of r ≡ less n
+    go zero None f = refl
+    go zero (Some x) f = absurd (omega (arith, f.0))
+    go (suc n) None f = absurd (f (omega arith))
+    go (suc n) (Some x) f = let u : x ≡ n = omega (arith, f.1) in ap some u
 
-pub count_down : (b : Bool) (n : ℕ) → b ≡ false → ¬ (n ≡ 0) → some (n - 1) ≡ counted b n
-unfolding counted less
-count_down b n e f = let u : n ≡ suc (n - 1) = omega arith in sym (ap₂ counted e u)
+some_of : (r : Maybe ℕ) (o : Option ℕ) (n : ℕ) → option_of r ≡ o → r ≡ Some n → o ≡ some n
+some_of r o n e f = sym e ∙ ap option_of f
 
-some_of : (r : Step) (o : Option ℕ) (n : ℕ) → step_of r ≡ o → r ≡ step.Is n → o ≡ some n
-some_of r o n e f = sym e ∙ ap step_of f
-
-none_of : (r : Step) (o : Option ℕ) → step_of r ≡ o → r ≡ step.Nothing → o ≡ none
-none_of r o e f = sym e ∙ ap step_of f
+none_of : (r : Maybe ℕ) (o : Option ℕ) → option_of r ≡ o → r ≡ None → o ≡ none
+none_of r o e f = sym e ∙ ap option_of f
 
 one_left : (k : ℕ) → 0 < k → k ≡ suc (k - 1)
 one_left k h = omega arith
@@ -74,39 +76,43 @@ word_here l d i k e = go (get_or l i false) d e
     go false zero e = refl
     go false (suc d) e = let z : ◌≡◌ {A = ℕ} 0 1 = cc in absurd (omega arith)
 
-pub record Searching (l : List Bool) (p d i k : ℕ) : Type 0 where
-  pub same : in_word l d (suc i) k ≡ in_word l 0 (suc p) (63 - p % 64)
-  pub reach : i + k ≡ p + (63 - p % 64)
-  pub low : d + k ≤ 63
+-- s places on from p
+pub record Searching (l : List Bool) (p d s : ℕ) : Type 0 where
+  pub same : in_word l d (p + s) (64 - p % 64 - s) ≡ in_word l 0 (suc p) (63 - p % 64)
+  pub low : d < s
 
-pub search_start : (l : List Bool) (p : ℕ) → Searching l p 0 p (63 - p % 64)
-search_start l p = record { same = refl; reach = refl; low = omega arith }
+pub search_start : (l : List Bool) (p : ℕ) → Searching l p 0 1
+search_start l p =
+    let e : p + 1 ≡ suc p = omega arith in
+    let f : 64 - p % 64 - 1 ≡ 63 - p % 64 = omega arith in
+    record { same = ap₂ (in_word l 0) e f; low = omega arith }
 
-pub search_on : (l : List Bool) (p d i k n : ℕ) (b : Bool) (r : Step) → Searching l p d i k → 0 < k
-    → b ≡ get_or l (i + 1) false → step_of r ≡ counted b d → r ≡ step.Is n → Searching l p n (i + 1) (k - 1)
-search_on l p d i k n b r s h e f g =
-    let c : counted (get_or l (suc i) false) d ≡ some n =
-    ap (λ x. counted x d) (ap (λ x. get_or l x false) (sym (add-one i)) ∙ sym e) ∙ some_of r (counted b d) n f g in
-    record {
-      same =
-          ap (λ x. in_word l n (suc x) (k - 1)) (add-one i)
-          ∙ sym (word_on l d n (suc i) (k - 1) c)
-          ∙ ap (in_word l d (suc i)) (sym (one_left k h))
-          ∙ s.same;
-      reach = omega (arith, s.reach);
-      low = omega (arith, s.low, most (get_or l (suc i) false) d n c);
-    }
+module _ (l : List Bool) (p d s : ℕ) (b : Bool) (r : Maybe ℕ) (i : Searching l p d s) (h : s < 64 - p % 64) (e : b ≡ get_or l (p + s) false)
+    (f : option_of r ≡ counted b d) where
+  one_more : 64 - p % 64 - s ≡ suc (64 - p % 64 - (s + 1))
+  one_more = omega arith
 
-pub search_here : (l : List Bool) (p d i k : ℕ) (b : Bool) (r : Step) → Searching l p d i k → 0 < k
-    → b ≡ get_or l (i + 1) false → step_of r ≡ counted b d → r ≡ step.Nothing → some (i + 1) ≡ in_word l 0 (suc p) (63 - p % 64)
-search_here l p d i k b r s h e f g =
-    let c : counted (get_or l (suc i) false) d ≡ none =
-    ap (λ x. counted x d) (ap (λ x. get_or l x false) (sym (add-one i)) ∙ sym e) ∙ none_of r (counted b d) f g in
-    ap some (add-one i) ∙ sym (word_here l d (suc i) (k - 1) c) ∙ ap (in_word l d (suc i)) (sym (one_left k h)) ∙ s.same
+  pub search_on : (n : ℕ) → r ≡ Some n → Searching l p n (s + 1)
+  search_on n g =
+      let c : counted (get_or l (p + s) false) d ≡ some n = ap (λ x. counted x d) (sym e) ∙ some_of r (counted b d) n f g in
+      let u : p + (s + 1) ≡ suc (p + s) = omega arith in
+      record {
+        same =
+            ap (λ x. in_word l n x (64 - p % 64 - (s + 1))) u
+            ∙ sym (word_on l d n (p + s) (64 - p % 64 - (s + 1)) c)
+            ∙ ap (in_word l d (p + s)) (sym one_more)
+            ∙ i.same;
+        low = omega (arith, i.low, most (get_or l (p + s) false) d n c);
+      }
 
-pub search_done : (l : List Bool) (p d i k : ℕ) → Searching l p d i k → k ≤ 0 → none ≡ in_word l 0 (suc p) (63 - p % 64)
+  pub search_here : r ≡ None → some (p + s) ≡ in_word l 0 (suc p) (63 - p % 64)
+  search_here g =
+      let c : counted (get_or l (p + s) false) d ≡ none = ap (λ x. counted x d) (sym e) ∙ none_of r (counted b d) f g in
+      sym (word_here l d (p + s) (64 - p % 64 - (s + 1)) c) ∙ ap (in_word l d (p + s)) (sym one_more) ∙ i.same
+
+pub search_done : (l : List Bool) (p d s : ℕ) → Searching l p d s → 64 - p % 64 ≤ s → none ≡ in_word l 0 (suc p) (63 - p % 64)
 unfolding in_word
-search_done l p d i k s h = let z : 0 ≡ k = omega arith in ap (in_word l d (suc i)) z ∙ s.same
+search_done l p d s i h = let z : 0 ≡ 64 - p % 64 - s = omega arith in ap (in_word l d (p + s)) z ∙ i.same
 
 -- opens less closes
 excess_on : (l : List Bool) (d n i k : ℕ) → counted (get_or l i false) d ≡ some n → excess l d i (suc k) ≡ excess l n (suc i) k
@@ -136,8 +142,8 @@ pub record Counting (l : List Bool) (q p d i : ℕ) : Type 0 where
 pub count_start : (l : List Bool) (q p : ℕ) → Counting l q p 0 q
 count_start l q p = record { same = refl; low = omega arith }
 
-pub count_on : (l : List Bool) (q p d i n : ℕ) (b : Bool) (r : Step) → Counting l q p d i → i < p
-    → b ≡ get_or l i false → step_of r ≡ counted b d → r ≡ step.Is n → Counting l q p n (i + 1)
+pub count_on : (l : List Bool) (q p d i n : ℕ) (b : Bool) (r : Maybe ℕ) → Counting l q p d i → i < p
+    → b ≡ get_or l i false → option_of r ≡ counted b d → r ≡ Some n → Counting l q p n (i + 1)
 count_on l q p d i n b r s h e f g =
     let c : counted (get_or l i false) d ≡ some n = ap (λ x. counted x d) (sym e) ∙ some_of r (counted b d) n f g in
     let u : p - i ≡ suc (p - (i + 1)) = omega arith in
@@ -147,8 +153,8 @@ count_on l q p d i n b r s h e f g =
       low = omega (arith, s.low, most (get_or l i false) d n c);
     }
 
-pub count_none : (l : List Bool) (q p d i : ℕ) (b : Bool) (r : Step) → Counting l q p d i → i < p
-    → b ≡ get_or l i false → step_of r ≡ counted b d → r ≡ step.Nothing → none ≡ excess l 0 q (p - q)
+pub count_none : (l : List Bool) (q p d i : ℕ) (b : Bool) (r : Maybe ℕ) → Counting l q p d i → i < p
+    → b ≡ get_or l i false → option_of r ≡ counted b d → r ≡ None → none ≡ excess l 0 q (p - q)
 count_none l q p d i b r s h e f g =
     let c : counted (get_or l i false) d ≡ none = ap (λ x. counted x d) (sym e) ∙ none_of r (counted b d) f g in
     let u : p - i ≡ suc (p - (i + 1)) = omega arith in
@@ -158,23 +164,19 @@ pub count_done : (l : List Bool) (q p d i : ℕ) → Counting l q p d i → p �
 unfolding excess
 count_done l q p d i s h = let z : 0 ≡ p - i = omega arith in ap (excess l d i) z ∙ s.same
 
--- to the left
-answer_at : (t : Bool) (i : ℕ) (best : Option ℕ) → elim t [ true ↦ some i | false ↦ best ] ≡ or_else (elim t [ true ↦ some i | false ↦ none ]) best
-unfolding or_else
-answer_at true i best = refl
-answer_at false i best = refl
+-- to the left: the answer so far, past an open (b true) or a close at place i at which the count is n
+unfoldable closer : Bool → ℕ → ℕ → ℕ → Option ℕ → Option ℕ
+closer true n d i best = best
+closer false n d i best = elim (eqb n d) [ true ↦ some i | false ↦ best ]
 
 left_on : (l : List Bool) (s d k e n : ℕ) (best : Option ℕ) → counted (not (get_or l (s + k) false)) e ≡ some n
-    → left_from l s d (suc k) e best ≡ left_from l s d k n (or_else (reached (get_or l (s + k) false) n d (s + k)) best)
-unfolding left_from left_bit counted less reached or_else
+    → left_from l s d (suc k) e best ≡ left_from l s d k n (closer (get_or l (s + k) false) n d (s + k) best)
+unfolding left_from left_bit counted less closer
 left_on l s d k e n best f = go (get_or l (s + k) false) e f
   where
     go : (b : Bool) (e : ℕ) → counted (not b) e ≡ some n
-        → left_bit l s d k e best b (λ e b. left_from l s d k e b) ≡ left_from l s d k n (or_else (reached b n d (s + k)) best)
-    go false e f =
-        let z : n ≡ suc e = cc in
-        ap (λ x. left_from l s d k x (elim (eqb x d) [ true ↦ some (s + k) | false ↦ best ])) (sym z)
-        ∙ ap (left_from l s d k n) (answer_at (eqb n d) (s + k) best)
+        → left_bit l s d k e best b (λ e b. left_from l s d k e b) ≡ left_from l s d k n (closer b n d (s + k) best)
+    go false e f = let z : n ≡ suc e = cc in ap (λ x. left_from l s d k x (elim (eqb x d) [ true ↦ some (s + k) | false ↦ best ])) (sym z)
     go true zero f = let z : ◌≡◌ {A = ℕ} 0 1 = cc in absurd (omega arith)
     go true (suc e) f = let z : n ≡ e = cc in ap (λ x. left_from l s d k x best) (sym z)
 
@@ -187,117 +189,122 @@ left_none l s d k e best f = go (get_or l (s + k) false) e f
     go true zero f = refl
     go true (suc e) f = let z : ◌≡◌ {A = ℕ} 0 1 = cc in absurd (omega arith)
 
-pub record Walking (l : List Bool) (d c k e : ℕ) (best : Step) : Type 0 where
-  pub same : left_from l (c / 64 * 64) d k e (step_of best) ≡ left_from l (c / 64 * 64) d (c % 64) 0 none
-  pub low : e + k ≤ 63
+-- the places before i are left
+pub record Walking (l : List Bool) (d c i e : ℕ) (best : Maybe ℕ) : Type 0 where
+  pub same : left_from l (c / 64 * 64) d (i - c / 64 * 64) e (option_of best) ≡ left_from l (c / 64 * 64) d (c % 64) 0 none
+  pub low : e + i ≤ c / 64 * 64 + 63
 
-pub walk_start : (l : List Bool) (d c : ℕ) → Walking l d c (c % 64) 0 step.Nothing
-walk_start l d c = record { same = refl; low = omega arith }
+pub walk_start : (l : List Bool) (d c : ℕ) → Walking l d c c 0 None
+walk_start l d c =
+    let e : c - c / 64 * 64 ≡ c % 64 = omega arith in record { same = ap (λ x. left_from l (c / 64 * 64) d x 0 none) e; low = omega arith }
 
-pub walk_on : (l : List Bool) (d c k e n : ℕ) (best here next : Step) (b : Bool) (r : Step) → Walking l d c k e best → 0 < k
-    → b ≡ get_or l (c / 64 * 64 + (k - 1)) false → step_of r ≡ counted (not b) e → r ≡ step.Is n
-    → step_of here ≡ reached b n d (c / 64 * 64 + (k - 1)) → step_of next ≡ or_else (step_of here) (step_of best) → Walking l d c (k - 1) n next
-walk_on l d c k e n best here next b r w h f g i j m =
-    let s : ℕ = c / 64 * 64 in
-    let u : counted (not (get_or l (s + (k - 1)) false)) e ≡ some n = ap (λ x. counted (not x) e) (sym f) ∙ some_of r (counted (not b) e) n g i in
-    record {
-      same =
-          ap (left_from l s d (k - 1) n) (m ∙ ap (λ x. or_else x (step_of best)) (j ∙ ap (λ x. reached x n d (s + (k - 1))) f))
-          ∙ sym (left_on l s d (k - 1) e n (step_of best) u)
-          ∙ ap (λ x. left_from l s d x e (step_of best)) (sym (one_left k h))
-          ∙ w.same;
-      low = omega (arith, w.low, most (not (get_or l (s + (k - 1)) false)) e n u);
-    }
+module _ (l : List Bool) (d c j e : ℕ) (best : Maybe ℕ) (b : Bool) (r : Maybe ℕ) (w : Walking l d c j e best) (h : c / 64 * 64 < j)
+    (f : b ≡ get_or l (j - 1) false) (g : option_of r ≡ counted (not b) e) where
+  abbrev i : ℕ
+  i = j - 1
 
-pub reached_shut : (b : Bool) (n d i : ℕ) → b ≡ true → none ≡ reached b n d i
-unfolding reached
-reached_shut b n d i e = rw (e, reached)
+  here : get_or l (c / 64 * 64 + (i - c / 64 * 64)) false ≡ b
+  here = let u : c / 64 * 64 + (i - c / 64 * 64) ≡ i = omega arith in ap (λ x. get_or l x false) u ∙ sym f
 
-pub reached_here : (b : Bool) (n d i : ℕ) → b ≡ false → n ≡ d → some i ≡ reached b n d i
-unfolding reached
-reached_here b n d i e f = rw (e, reached, eq-eqb n d f)
+  one_before : j - c / 64 * 64 ≡ suc (i - c / 64 * 64)
+  one_before = omega arith
 
-pub reached_not : (b : Bool) (n d i : ℕ) → b ≡ false → ¬ (n ≡ d) → none ≡ reached b n d i
-unfolding reached
-reached_not b n d i e f = rw (e, reached, ne_eqb n d f)
+  on : (n : ℕ) (next : Maybe ℕ) → r ≡ Some n → option_of next ≡ closer b n d i (option_of best) → Walking l d c (j - 1) n next
+  on n next k m =
+      let s : ℕ = c / 64 * 64 in
+      let v : s + (i - s) ≡ i = omega arith in
+      let u : counted (not (get_or l (s + (i - s)) false)) e ≡ some n = ap (λ x. counted (not x) e) here ∙ some_of r (counted (not b) e) n g k in
+      record {
+        same =
+            ap (left_from l s d (i - s) n) (m ∙ ap₂ (λ x y. closer x n d y (option_of best)) (sym here) (sym v))
+            ∙ sym (left_on l s d (i - s) e n (option_of best) u)
+            ∙ ap (λ x. left_from l s d x e (option_of best)) (sym one_before)
+            ∙ w.same;
+        low = omega (arith, w.low, most (not (get_or l (s + (i - s)) false)) e n u);
+      }
 
-pub latest_is : (a b : Step) (i : ℕ) → a ≡ step.Is i → some i ≡ or_else (step_of a) (step_of b)
-unfolding or_else
-latest_is a b i e = ap (λ x. or_else (step_of x) (step_of b)) (sym e)
+  pub walk_here : (n : ℕ) (next : Maybe ℕ) → r ≡ Some n → b ≡ false → n ≡ d → next ≡ Some (j - 1) → Walking l d c (j - 1) n next
+  unfolding closer
+  walk_here n next k x y z = on n next k (ap option_of z ∙ sym (rw (x, closer, eq-eqb n d y)))
 
-pub latest_none : (a b : Step) → a ≡ step.Nothing → step_of b ≡ or_else (step_of a) (step_of b)
-unfolding or_else
-latest_none a b e = ap (λ x. or_else (step_of x) (step_of b)) (sym e)
+  pub walk_open : (n : ℕ) (next : Maybe ℕ) → r ≡ Some n → b ≡ true → next ≡ best → Walking l d c (j - 1) n next
+  unfolding closer
+  walk_open n next k x z = on n next k (ap option_of z ∙ sym (rw x))
 
-pub walk_none : (l : List Bool) (d c k e : ℕ) (best : Step) (b : Bool) (r : Step) → Walking l d c k e best → 0 < k
-    → b ≡ get_or l (c / 64 * 64 + (k - 1)) false → step_of r ≡ counted (not b) e → r ≡ step.Nothing
-    → none ≡ left_from l (c / 64 * 64) d (c % 64) 0 none
-walk_none l d c k e best b r w h f g i =
-    let s : ℕ = c / 64 * 64 in
-    let u : counted (not (get_or l (s + (k - 1)) false)) e ≡ none = ap (λ x. counted (not x) e) (sym f) ∙ none_of r (counted (not b) e) g i in
-    sym (left_none l s d (k - 1) e (step_of best) u) ∙ ap (λ x. left_from l s d x e (step_of best)) (sym (one_left k h)) ∙ w.same
+  pub walk_not : (n : ℕ) (next : Maybe ℕ) → r ≡ Some n → b ≡ false → ¬ (n ≡ d) → next ≡ best → Walking l d c (j - 1) n next
+  unfolding closer
+  walk_not n next k x y z = on n next k (ap option_of z ∙ sym (rw (x, closer, ne_eqb n d y)))
 
-pub walk_done : (l : List Bool) (d c k e : ℕ) (best : Step) → Walking l d c k e best → k ≤ 0
-    → step_of best ≡ left_from l (c / 64 * 64) d (c % 64) 0 none
+  pub walk_none : r ≡ None → none ≡ left_from l (c / 64 * 64) d (c % 64) 0 none
+  walk_none k =
+      let s : ℕ = c / 64 * 64 in
+      let u : counted (not (get_or l (s + (i - s)) false)) e ≡ none = ap (λ x. counted (not x) e) here ∙ none_of r (counted (not b) e) g k in
+      sym (left_none l s d (i - s) e (option_of best) u) ∙ ap (λ x. left_from l s d x e (option_of best)) (sym one_before) ∙ w.same
+
+pub walk_done : (l : List Bool) (d c i e : ℕ) (best : Maybe ℕ) → Walking l d c i e best → i ≤ c / 64 * 64
+    → option_of best ≡ left_from l (c / 64 * 64) d (c % 64) 0 none
 unfolding left_from
-walk_done l d c k e best w h = let z : 0 ≡ k = omega arith in ap (λ x. left_from l (c / 64 * 64) d x e (step_of best)) z ∙ w.same
+walk_done l d c i e best w h =
+    let z : 0 ≡ i - c / 64 * 64 = omega arith in ap (λ x. left_from l (c / 64 * 64) d x e (option_of best)) z ∙ w.same
 
 -- if d is 0 the answer is c
 pub child_here : (l : List Bool) (d c : ℕ) → d ≡ 0 → some c ≡ from_close l d c
 unfolding from_close
 child_here l d c e = ap (λ x. from_close l x c) (sym e)
 
-pub child_left : (l : List Bool) (d c : ℕ) (r : Step) → ¬ (d ≡ 0) → step_of r ≡ left_from l (c / 64 * 64) d (c % 64) 0 none → step_of r ≡ from_close l d c
+pub child_left : (l : List Bool) (d c : ℕ) (r : Maybe ℕ) → ¬ (d ≡ 0) → option_of r ≡ left_from l (c / 64 * 64) d (c % 64) 0 none → option_of r ≡ from_close l d c
 unfolding from_close
 child_left l zero c r h e = absurd (h refl)
 child_left l (suc d) c r h e = e
 
 -- the word's close, by what is found at p and in its word
-pub near_shut : (l : List Bool) (p : ℕ) (b : Bool) → b ≡ get_or l p false → not b ≡ true → NearIs l p near.Broken
+pub near_shut : (l : List Bool) (p : ℕ) (b : Bool) → b ≡ get_or l p false → not b ≡ true → NearIs l p (Err Broken)
 unfolding close_at test
 near_shut l p b e f = record { close = λ d up. rw (sym e ∙ not-true b f, test); small = tt }
 
-module _ (ws : List ℕ) (n p : ℕ) (b : Bool) (r : Step) (e : b ≡ get_or (bits_of ws n) p false) (f : not b ≡ false)
-    (g : step_of r ≡ in_word (bits_of ws n) 0 (suc p) (63 - p % 64)) where
-  pub near_far : r ≡ step.Nothing → NearIs (bits_of ws n) p near.Far
+module _ (ws : List ℕ) (n p : ℕ) (b : Bool) (r : Maybe ℕ) (e : b ≡ get_or (bits_of ws n) p false) (f : not b ≡ false)
+    (g : option_of r ≡ in_word (bits_of ws n) 0 (suc p) (63 - p % 64)) where
+  pub near_far : r ≡ None → NearIs (bits_of ws n) p (Ok None)
   unfolding close_at test
-  near_far i = record { close = λ d up. rw (sym e ∙ not-false b f, test, sym g ∙ ap step_of i); small = tt }
+  near_far i = record { close = λ d up. rw (sym e ∙ not-false b f, test, sym g ∙ ap option_of i); small = tt }
 
-  pub near_in : (c : ℕ) → r ≡ step.Is c → c < n → n < 2 ^ 64 → NearIs (bits_of ws n) p (near.Is c)
+  pub near_in : (c : ℕ) → r ≡ Some c → c < n → n < 2 ^ 64 → NearIs (bits_of ws n) p (Ok (Some c))
   unfolding close_at test
   near_in c i h k =
       record {
-        close = λ d up. rw (sym e ∙ not-false b f, test, sym g ∙ ap step_of i, lt-ltb c _ (subst (λ x. c < x) (sym (length_bits ws n)) h), test);
+        close = λ d up. rw (sym e ∙ not-false b f, test, sym g ∙ ap option_of i, lt-ltb c _ (subst (λ x. c < x) (sym (length_bits ws n)) h), test);
         small = omega arith;
       }
 
-  pub near_out : (c : ℕ) → r ≡ step.Is c → n ≤ c → NearIs (bits_of ws n) p near.Broken
+  pub near_out : (c : ℕ) → r ≡ Some c → n ≤ c → NearIs (bits_of ws n) p (Err Broken)
   unfolding close_at test
   near_out c i h =
       record {
-        close = λ d up. rw (sym e ∙ not-false b f, test, sym g ∙ ap step_of i, le-ltb c _ (subst (λ x. x ≤ c) (sym (length_bits ws n)) h), test);
+        close = λ d up. rw (sym e ∙ not-false b f, test, sym g ∙ ap option_of i, le-ltb c _ (subst (λ x. x ≤ c) (sym (length_bits ws n)) h), test);
         small = tt;
       }
 
 -- the close of p from that of q
-pub from_out : (o : Option ℕ) (n c : ℕ) → n ≤ c → Finds step.Nothing (test (ltb c n) o)
+pub from_out : (o : Option ℕ) (n c : ℕ) → n ≤ c → Finds None (test (ltb c n) o)
 unfolding test
 from_out o n c h = record { is = rw (le-ltb c n h); small = tt }
 
-pub from_none : (l : List Bool) (n p q c : ℕ) (r : Step) → c < n → step_of r ≡ excess l 0 q (p - q) → r ≡ step.Nothing
-    → Finds step.Nothing (test (ltb c n) (and_then (excess l 0 q (p - q)) (λ d. from_close l d c)))
+pub from_none : (l : List Bool) (n p q c : ℕ) (r z : Maybe ℕ) → c < n → option_of r ≡ excess l 0 q (p - q) → r ≡ None → z ≡ None
+    → Finds z (test (ltb c n) (and_then (excess l 0 q (p - q)) (λ d. from_close l d c)))
 unfolding test and_then
-from_none l n p q c r h e f = record { is = rw (lt-ltb c n h, test, sym e ∙ ap step_of f); small = tt }
+from_none l n p q c r z h e f g =
+    subst (λ x. Finds x (test (ltb c n) (and_then (excess l 0 q (p - q)) (λ d. from_close l d c)))) (sym g)
+    (record { is = rw (lt-ltb c n h, test, sym e ∙ ap option_of f); small = tt })
 
-step_small : (r : Step) (n : ℕ) → ((j : ℕ) → step_of r ≡ some j → j < n) → n < 2 ^ 64 → Small r
-step_small (step.Is j) n h k = omega (arith, h j refl)
-step_small step.Nothing n h k = tt
+step_small : (r : Maybe ℕ) (n : ℕ) → ((j : ℕ) → option_of r ≡ some j → j < n) → n < 2 ^ 64 → Small r
+step_small (Some j) n h k = omega (arith, h j refl)
+step_small None n h k = tt
 
-pub from_left : (l : List Bool) (n p q c d : ℕ) (r s : Step) → c < n → n < 2 ^ 64 → step_of r ≡ excess l 0 q (p - q) → r ≡ step.Is d
-    → step_of s ≡ from_close l d c → Finds s (test (ltb c n) (and_then (excess l 0 q (p - q)) (λ d. from_close l d c)))
+pub from_left : (l : List Bool) (n p q c d : ℕ) (r s : Maybe ℕ) → c < n → n < 2 ^ 64 → option_of r ≡ excess l 0 q (p - q) → r ≡ Some d
+    → option_of s ≡ from_close l d c → Finds s (test (ltb c n) (and_then (excess l 0 q (p - q)) (λ d. from_close l d c)))
 unfolding test and_then
 from_left l n p q c d r s h k e f g =
     record {
-      is = rw (lt-ltb c n h, test, sym e ∙ ap step_of f) g;
+      is = rw (lt-ltb c n h, test, sym e ∙ ap option_of f) g;
       small = step_small s n (λ j u. omega (arith, from_inside l d c j (sym g ∙ u))) k;
     }

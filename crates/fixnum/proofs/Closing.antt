@@ -13,7 +13,8 @@ use Rattle.meaning.specs.Match.{close_of}
 use Rattle.meaning.specs.Word.{word_bits, word_close}
 use Rattle.meaning.proofs.If as test
 use Rattle.meaning.proofs.Scan.{waiting, scan_start, scan_open, scan_shut, scan_found, scan_end}
-use Rattle.meaning.proofs.Word.{length_word, at_word, close_in, close_nothing}
+use Rattle.meaning.proofs.Word.{length_word, at_word, close_in, close_nothing, close_out, close_shut}
+use Rattle.fixnum.proofs.Within.{bit_told}
 use Rattle.fixnum.specs.Scan.{OneOpen, Passed}
 
 -- before place j, n opens wait, and the close of the first of them is that of the open at i
@@ -79,3 +80,6 @@ module _ {w x i n j : ℕ} (s : Scanned w x i n j) where
   none h =
       close_nothing w x i s.inside s.opening
       (s.close ∙ scan_end (word_bits w x) (n - 1) j (omega (arith, length_word w x)) ∙ length_word w x)
+
+-- what the steps of get_close rest on
+pub ruleset closing = (close_out, close_shut, bit_told, begin, may_pass, here, on, none)

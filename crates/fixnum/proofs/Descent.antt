@@ -4,23 +4,21 @@ use mathlib.Core.Path.{◌≡◌, refl, sym, ap, ◌∙◌, subst, subst₂}
 use mathlib.Core.List.{List, [], ◌∷◌}
 use mathlib.Core.Logic.{◌⊎◌, inl, inr}
 use Prim.Native.Nat.{ℕ, zero, suc, ◌+◌, ◌-◌, ◌*◌, ◌/◌, ◌%◌, ◌^◌, ◌≤◌, ◌<◌}
-use native.Mathlib.Nat.{add-mul, div-eq_of_lt, div-one, le_of_eq, le_trans, lt_of_le_of_lt, lt_of_lt_of_le, lt_of_not-le, lt-suc_self, mod-eq_of_lt, mul-add, mul_assoc, mul-zero, two-pow-succ, zero-add}
+use native.Mathlib.Nat.{add-mul, add-zero, div-eq_of_lt, div-one, le_of_eq, le_trans, lt_of_le_of_lt, lt_of_lt_of_le, lt_of_not-le, lt-suc_self, mod-eq_of_lt, mul-add, mul_assoc, mul-zero, two-pow-succ, zero-add}
 use native.Mathlib.Omega.{arith}
 use lib.Bits.{bit_and, and_mask}
-use lib.ListN.{get_or}
+use lib.ListN.{length, get_or, take, drop}
+use Rattle.std.proofs.lemmas.List.{length-take, length-drop, get_or-take, get_or-drop}
 use lib.Pow.{mod-mod-pow, pow-add, pow-lt, pow_mono, pow_pos, shl-shr, shr-shr}
 use Rattle.meaning.specs.Bits.{bit}
 use Rattle.meaning.specs.Answers.{is, nothing}
 use Rattle.meaning.specs.Count.{count}
-use Rattle.meaning.specs.Word.{word_select}
+use Rattle.meaning.specs.Word.{word_ones, word_select}
 use Rattle.meaning.proofs.Bit.{bit_lt, bit_past}
 use Rattle.meaning.proofs.Ones.{bits_add, bits_le, count_zero}
-use Rattle.meaning.proofs.Word.{select_in, select_nothing}
+use Rattle.meaning.proofs.Word.{ones_word, select_in, select_nothing}
 use Rattle.fixnum.specs.Fields.{sh, Holds}
-use Rattle.fixnum.specs.Summed.{Summed8, Summed64}
 use Rattle.fixnum.specs.Levels.{Level, Counted, Ready, NthOne, Steady, lower, Upper, Lower, Halved}
-use Rattle.fixnum.specs.declared.count.Sums8.{Sums8}
-use Rattle.fixnum.specs.declared.count.Sums64.{Sums64}
 use Rattle.fixnum.specs.declared.select.Part.{Part}
 use Rattle.fixnum.proofs.Fields.{sh_is, each_bit}
 
@@ -187,6 +185,28 @@ module _ {xs : List ℕ} {s k j : ℕ} {p : Part} (d : Descent xs s k p j) where
       let r = at_bottom (subst (λ (i : ℕ). Deep (get_or xs 5 0) k p.offset p.left (2 ^ i)) e d.deep) in
       record { set = r.0; ones = r.1 }
 
+-- ---- the loop over the levels from s on
+
+abbrev rest : List ℕ → ℕ → List ℕ
+rest xs s = take (length xs - s) (drop s xs)
+
+rest_length : (xs : List ℕ) (s : ℕ) → length (rest xs s) ≡ length xs - s
+rest_length xs s = omega (arith, length-take (length xs - s) (drop s xs), length-drop s xs)
+
+pub from_start : {xs : List ℕ} {s k : ℕ} → Ready xs s k → Descent xs s k (record { left = k; offset = 0; width = 64 / 2 ^ s }) (s + 0)
+from_start {xs} {s} {k} h = subst (Descent xs s k (record { left = k; offset = 0; width = 64 / 2 ^ s })) (sym (add-zero s)) (start h)
+
+module _ {xs : List ℕ} {s k i : ℕ} {p : Part} (d : Descent xs s k p (s + i)) (six : length xs ≡ 6) where
+  pub next_turn : i < length (rest xs s) → (r : Part) → Halved (get_or (rest xs s) i 0) p r → Descent xs s k r (s + (i + 1))
+  next_turn h r g =
+      let l : i < length xs - s = omega (arith, rest_length xs s) in
+      let e : get_or (rest xs s) i 0 ≡ get_or xs (s + i) 0 = get_or-take (length xs - s) (drop s xs) i 0 l ∙ get_or-drop s xs i 0 in
+      let n : s + i + 1 ≡ s + (i + 1) = omega arith in
+      subst (Descent xs s k r) n (turn d (omega arith) r (subst (λ (y : ℕ). Halved y p r) e g))
+
+  pub all_behind : length (rest xs s) ≤ i → NthOne (get_or xs 5 0) k p.offset
+  all_behind h = reached d (omega (arith, rest_length xs s))
+
 -- ---- the levels of each width: the last three are of one kind
 
 module _ {x s₁ s₂ : ℕ} (two : Holds 2 2 s₁ x) (four : Holds 4 4 s₂ x) (a b d : ℕ) where
@@ -202,17 +222,22 @@ module _ {x s₁ s₂ : ℕ} (two : Holds 2 2 s₁ x) (four : Holds 4 4 s₂ x) 
   last_levels (suc zero) g l = absurd (omega arith)
   last_levels (suc (suc zero)) g l = absurd (omega arith)
 
-pub stages8 : {x n : ℕ} (s : Sums8) → Summed8 x s → x < 2 ^ 8 → n ≡ count (bit x) 8 → Counted (0 ∷ 0 ∷ 0 ∷ s.s2 ∷ s.s1 ∷ x ∷ []) 3 n
-stages8 s h f e = record { stages = record { start = omega arith; small = f; levels = last_levels h.two h.four 0 0 0 }; ones = e }
+pub levels8 : {x s₁ s₂ a b d n : ℕ} → a ≡ s₂ → b ≡ s₁ → d ≡ x → Holds 2 2 s₁ x → Holds 4 4 s₂ x → x < 2 ^ 8 → n ≡ count (bit x) 8
+    → Counted (0 ∷ 0 ∷ 0 ∷ a ∷ b ∷ d ∷ []) 3 n
+levels8 {x} {s₁} {s₂} {a} {b} {d} {n} p q r two four f e =
+    subst₂ (λ (a b : ℕ). Counted (0 ∷ 0 ∷ 0 ∷ a ∷ b ∷ d ∷ []) 3 n) (sym p) (sym q)
+    (subst (λ (d : ℕ). Counted (0 ∷ 0 ∷ 0 ∷ s₂ ∷ s₁ ∷ d ∷ []) 3 n) (sym r)
+    (record { stages = record { start = omega arith; small = f; levels = last_levels two four 0 0 0 }; ones = e }))
 
-pub stages64 : {x n : ℕ} (s : Sums64) → Summed64 x s → x < 2 ^ 64 → n ≡ count (bit x) 64 → Counted (s.s5 ∷ s.s4 ∷ s.s3 ∷ s.s2 ∷ s.s1 ∷ x ∷ []) 0 n
-stages64 {x} s h f e = record { stages = record { start = omega arith; small = f; levels = all }; ones = e }
+pub levels64 : {x s₁ s₂ s₃ s₄ s₅ n : ℕ} → Holds 2 2 s₁ x → Holds 4 4 s₂ x → Holds 8 8 s₃ x → Holds 8 16 s₄ x → Holds 8 32 s₅ x → x < 2 ^ 64 → n ≡ count (bit x) 64
+    → Counted (s₅ ∷ s₄ ∷ s₃ ∷ s₂ ∷ s₁ ∷ x ∷ []) 0 n
+levels64 {x} {s₁} {s₂} {s₃} {s₄} {s₅} two four eight sixteen thirty_two f e = record { stages = record { start = omega arith; small = f; levels = all }; ones = e }
   where
-    all : (i : ℕ) → 0 ≤ i → i < 6 → Level (get_or (s.s5 ∷ s.s4 ∷ s.s3 ∷ s.s2 ∷ s.s1 ∷ x ∷ []) i 0) (5 - i) x
-    all zero g l = level_of 8 5 8 2 refl refl h.thirty_two
-    all (suc zero) g l = level_of 8 4 4 3 refl refl h.sixteen
-    all (suc (suc zero)) g l = level_of 8 3 2 4 refl refl h.eight
-    all (suc (suc (suc i))) g l = last_levels h.two h.four s.s5 s.s4 s.s3 (suc (suc (suc i))) (omega arith) l
+    all : (i : ℕ) → 0 ≤ i → i < 6 → Level (get_or (s₅ ∷ s₄ ∷ s₃ ∷ s₂ ∷ s₁ ∷ x ∷ []) i 0) (5 - i) x
+    all zero g l = level_of 8 5 8 2 refl refl thirty_two
+    all (suc zero) g l = level_of 8 4 4 3 refl refl sixteen
+    all (suc (suc zero)) g l = level_of 8 3 2 4 refl refl eight
+    all (suc (suc (suc i))) g l = last_levels two four s₅ s₄ s₃ (suc (suc (suc i))) (omega arith) l
 
 -- ---- the ways out
 module _ {xs : List ℕ} {s n : ℕ} (k : ℕ) (h : Counted xs s n) where
@@ -228,3 +253,7 @@ module _ {xs : List ℕ} {s n : ℕ} (k : ℕ) (h : Counted xs s n) where
   found_at i o =
       select_in (2 ^ (6 - s)) (get_or xs 5 0) k i
       (lt_of_not-le (λ g. omega (arith, o.set, bit_past (get_or xs 5 0) (2 ^ (6 - s)) i h.stages.small g))) o.set o.ones
+
+-- the count is that of the word
+pub all_ones : {xs : List ℕ} {s n x w : ℕ} → Counted xs s n → get_or xs 5 0 ≡ x → 2 ^ (6 - s) ≡ w → n ≡ word_ones w x
+all_ones {n = n} {x = x} {w = w} h e p = subst₂ (λ (x w : ℕ). n ≡ count (bit x) w) e p h.ones ∙ sym (ones_word w x)

@@ -1,11 +1,11 @@
-// Select by the masked descent: the stages of the count, from the widest to the word itself, each halving the bits that hold the one sought.
+// Select by the masked descent: the levels of the count, from the widest to the word itself, each halving the bits that hold the one sought.
 ghost use Rattle.std.specs.Prelude.{◌≡◌, ◌-◌, ◌^◌, true, false, get_or};
 ghost use Rattle.meaning.specs.Word.{word_select};
-ghost use Rattle.fixnum.specs.Said.{said_found};
-ghost use Rattle.fixnum.specs.Levels.{Counted, Halved, NthOne, Ready, Steady};
+ghost use Rattle.refusal.specs.Said.{only_found};
+ghost use Rattle.fixnum.specs.Levels.{Halved, NthOne, Ready, Steady};
 
-use super::count::{stages8, stages64};
-use super::{Fixnum8, Fixnum64, Found};
+use super::count::Levels;
+use super::{Fixnum, Word};
 
 // The one sought is the left-th of the `width` bits from `offset` on.
 #[derive(Clone, Copy)]
@@ -37,68 +37,45 @@ fn half(level: u64, p: Part) -> Part
     }
 }
 
-// The last level is the word, the one before it counts pairs, and so on; the first `start` levels are not looked at.
-fn descend(levels: [u64; 6], start: usize, rank: u64) -> u64
-    requires { Ready levels start rank }
-    ensures { NthOne (get_or levels 5 0) rank result }
-{
-    let mut p = Part {
-        left: rank,
-        offset: 0,
-        width: 64 >> start,
-    };
-    let mut j = start;
-    while j < 6 {
-        p = half(levels[j], p);
-        j += 1;
-    }
-    p.offset
-}
-
-// A word of 64 >> start bits, with its count.
-fn select_in(levels: [u64; 6], start: usize, ones: usize, rank: usize) -> Found
-    requires { Counted levels start ones }
-    ensures { said_found result ≡ word_select true (2 ^ (6 - start)) (get_or levels 5 0) rank }
-{
-    if rank == 0 {
-        return Found::Nothing;
-    }
-    if ones < rank {
-        return Found::Nothing;
-    }
-    Found::At(descend(levels, start, rank as u64) as usize)
-}
-
-impl Fixnum8 {
-    pub fn select_one(self, rank: usize) -> Found
-        ensures { said_found result ≡ word_select true 8 self.0 rank }
+impl Levels {
+    // The place of the rank-th one.
+    fn descend(self, rank: u64) -> u64
+        requires { Ready self.sums self.start rank }
+        ensures { NthOne (get_or self.sums 5 0) rank result }
     {
-        let x = self.0;
-        let s = stages8(x);
-        let levels = [0, 0, 0, s.s2 as u64, s.s1 as u64, x as u64];
-        select_in(levels, 3, (s.s3 & 15) as usize, rank)
+        let mut p = Part {
+            left: rank,
+            offset: 0,
+            width: 64 >> self.start,
+        };
+        for level in &self.sums[self.start..] {
+            p = half(*level, p);
+        }
+        p.offset
     }
 
-    pub fn select_zero(self, rank: usize) -> Found
-        ensures { said_found result ≡ word_select false 8 self.0 rank }
+    #[tactic(auto, using(crate::proofs::Descent::nothing_for, crate::proofs::Descent::may_descend, crate::proofs::Descent::found_at))]
+    pub(crate) fn select(self, rank: usize) -> Option<usize>
+        ensures { only_found result ≡ word_select true (2 ^ (6 - self.start)) (get_or self.sums 5 0) rank }
     {
-        Fixnum8(!self.0).select_one(rank)
+        if rank == 0 || self.ones < rank {
+            return None;
+        }
+        Some(self.descend(rank as u64) as usize)
     }
 }
 
-impl Fixnum64 {
-    pub fn select_one(self, rank: usize) -> Found
-        ensures { said_found result ≡ word_select true 64 self.0 rank }
+impl<W: Word> Fixnum<W> {
+    pub fn select_one(self, rank: usize) -> Option<usize>
+        ensures { only_found result ≡ word_select true W.BITWIDTH (W.value self.0) rank }
     {
-        let x = self.0;
-        let s = stages64(x);
-        let levels = [s.s5, s.s4, s.s3, s.s2, s.s1, x];
-        select_in(levels, 0, (s.s6 & 127) as usize, rank)
+        self.0.select_one(rank)
     }
 
-    pub fn select_zero(self, rank: usize) -> Found
-        ensures { said_found result ≡ word_select false 64 self.0 rank }
+    #[tactic(auto, using(meaning::proofs::Word::select_zeros))]
+    pub fn select_zero(self, rank: usize) -> Option<usize>
+        ensures { only_found result ≡ word_select false W.BITWIDTH (W.value self.0) rank }
     {
-        Fixnum64(!self.0).select_one(rank)
+        Fixnum(self.0.complement()).select_one(rank)
     }
 }

@@ -5,91 +5,79 @@
 
 mod asked;
 
-use asked::{Word, asked, length};
-use recorded::{Entry, Run, begins, compare, from, next_entry, wrong};
+use asked::{FIELDS, Field, asked, length};
+use fixnum::{Fixnum, Fixnum8, Fixnum64, Word};
+use recorded::{Entry, Run, Tally, next_entry};
 
-// Field f of a line: the answers to one question, at every place or rank.
-fn field(text: &[u8], r: Run, word: Word, f: usize) -> Run {
-    let n = length(word, f);
-    let last = if f == 13 { b'\n' } else { b'\t' };
-    let mut run = r;
-    let mut i: usize = 0;
-    while i < n {
+// The widths that the record has its words in.
+const _: () = prove!(Fixnum8::BITWIDTH == 8);
+
+const _: () = prove!(Fixnum64::BITWIDTH == 64);
+
+// A field of a line: the answers to one question, at every place or rank. The last one ends the line.
+fn answers<W: Word>(run: &mut Run<'_>, x: Fixnum<W>, field: Field) {
+    let n = length::<W>(field);
+    let last = if field == Field::Close { b'\n' } else { b'\t' };
+    for i in 0..n {
         let stop = if i + 1 == n { last } else { b' ' };
-        run = compare(text, run, asked(word, f, i), stop);
-        i += 1;
+        run.compare(asked(x, field, i), stop);
     }
-    run
 }
 
 // The answers about one word.
-fn fields(text: &[u8], r: Run, word: Word) -> Run {
-    let mut run = r;
-    let mut f: usize = 1;
-    while f <= 13 {
-        run = field(text, run, word, f);
-        f += 1;
+fn fields<W: Word>(run: &mut Run<'_>, x: Fixnum<W>) {
+    for field in FIELDS {
+        answers(run, x, field);
     }
-    run
 }
 
 // The value of a line's word, and then its answers.
-fn value(text: &[u8], r: Run, wide: bool) -> Run {
-    let got = next_entry(text, r.at);
-    let next = from(r, got.next);
-    if got.stop != b'\t' {
-        return wrong(next);
+fn value(run: &mut Run<'_>, wide: bool) {
+    let read = next_entry(run.text, run.at);
+    run.at = read.next;
+    match read.entry {
+        Entry::Number(x) if read.stop == b'\t' && wide => fields(run, Fixnum64::new(x)),
+        Entry::Number(x) if read.stop == b'\t' => match u8::try_from(x) {
+            Ok(x) => fields(run, Fixnum8::new(x)),
+            Err(_) => run.wrong(),
+        },
+        _ => run.wrong(),
     }
-    let e = got.entry;
-    let Entry::Number(x) = e else {
-        return wrong(next);
-    };
-    if wide {
-        return fields(text, next, Word { wide, x });
-    }
-    if 255 < x {
-        return wrong(next);
-    }
-    fields(text, next, Word { wide, x })
 }
 
 // One line.
-fn line(text: &[u8], r: Run) -> Run {
-    let at = r.at;
-    if begins(text, at, b"all8\t") {
-        return value(text, from(r, std::num::wrapping_add_usize(at, 5)), false);
+fn line(run: &mut Run<'_>) {
+    if run.took(b"all8\t") {
+        value(run, false);
+    } else if run.took(b"all64\t") {
+        value(run, true);
+    } else {
+        run.lost();
     }
-    if begins(text, at, b"all64\t") {
-        return value(text, from(r, std::num::wrapping_add_usize(at, 6)), true);
-    }
-    wrong(from(r, text.len()))
 }
 
-// All lines. A line is never empty, so the reading gets on.
-fn replay(text: &[u8]) -> Run {
-    let mut run = Run {
-        at: 0,
-        answers: 0,
-        different: 0,
-    };
+// All lines. A line is never empty, so the reading gets on. The step is a line's length, so this is no `for`.
+fn replay(text: &[u8]) -> Tally {
+    let mut run = Run::new(text, Tally::new());
     let mut at = 0;
     while at < text.len() {
-        run = line(text, run);
+        line(&mut run);
         if run.at <= at {
-            return wrong(run);
+            run.wrong();
+            return run.tally;
         }
         at = run.at;
     }
-    run
+    run.tally
 }
 
 fn main() {
     let mut text = [0u8; 262144];
     let n = io::read_full(0, &mut text);
-    let run = replay(&text[..n]);
+    let tally = replay(&text[..n]);
     io::write_all(1, b"fixnum: ");
-    io::print_decimal(1, run.answers);
+    io::print_decimal(1, tally.answers);
     io::write_all(1, b" answers, ");
-    io::print_decimal(1, run.different);
+    io::print_decimal(1, tally.different);
     io::write_all(1, b" different\n");
 }

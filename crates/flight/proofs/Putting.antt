@@ -2,25 +2,32 @@
 use mathlib.Core.Path.{◌≡◌, refl, sym, ap, ◌∙◌}
 use mathlib.Core.Bool.{Bool, true, false, ◌||◌}
 use mathlib.Core.List.{List, [], ◌∷◌}
-use Prim.Native.Nat.{ℕ, suc, ◌+◌, ◌≤◌, ◌<◌}
+use Prim.Native.Nat.{ℕ, ◌+◌, ◌≤◌}
 use native.Mathlib.Omega.{arith}
 use lib.Dec.{ltb}
-use lib.ListN.{get_or, set}
+use mathlib.Core.List.{◌++◌}
+use lib.ListN.{length, get_or, set, take, drop}
 use lib.Seq.{sets}
-use borrow.Author.Tests.{lt-ltb, le-ltb, ltb-false}
+use Rattle.std.proofs.lemmas.List.Edits.{sets-eq}
+use Rattle.std.proofs.lemmas.Slice.{put_mid-paste}
+use borrow.Rule.Slice.PartMut.{put_mid}
+use borrow.Author.Tests.{ltb-false}
 use Rattle.meaning.proofs.If.{clash}
 use Rattle.record.specs.Record.{tree_in}
 use Rattle.record.specs.declared.Counts.{Counts}
 use Rattle.flight.specs.Layout.{tree_at, numbers_of, four_at, four, short}
 
--- four stores
-pub four_set : (l : List ℕ) (i : ℕ) (a : List ℕ)
-    → set (set (set (set l i (get_or a 0 0)) (i + 1) (get_or a 1 0)) (i + 2) (get_or a 2 0)) (i + 3) (get_or a 3 0) ≡ sets l i (four a)
-four_set l i a =
-    let e₁ : i + 1 ≡ suc i = omega arith in
-    let e₂ : i + 2 ≡ suc (suc i) = omega arith in
-    let e₃ : i + 3 ≡ suc (suc (suc i)) = omega arith in
-    rw (e₁, e₂, e₃)
+-- four numbers copied
+take_four : (a : List ℕ) → length a ≡ 4 → take 4 a ≡ four a
+take_four [] e = absurd (omega arith)
+take_four (x ∷ []) e = absurd (omega arith)
+take_four (x ∷ y ∷ []) e = absurd (omega arith)
+take_four (x ∷ y ∷ z ∷ []) e = absurd (omega arith)
+take_four (x ∷ y ∷ z ∷ w ∷ l) e = refl
+
+pub four_put : (s ys a : List ℕ) (i k : ℕ) → i + 4 ≤ length s → length a ≡ 4 → ys ≡ a → k ≡ 4 → put_mid i k s ys ≡ sets s i (four a)
+four_put s ys a i k h l e f =
+    put_mid-paste i k s ys a 4 e (sym f) (sym l) ∙ ap (λ t. take i s ++ t ++ drop (i + 4) s) (take_four a l) ∙ sym (sets-eq (four a) s i h)
 
 -- the record's 18
 pub counts_set : (l x y z w : List ℕ) (c : Counts)
@@ -39,14 +46,6 @@ or_false_left false b e = refl
 or_false_right : (a b : Bool) → (a || b) ≡ false → b ≡ false
 or_false_right true b e = absurd (clash refl e)
 or_false_right false b e = e
-
-pub short_counts : (n m : ℕ) → n < 18 → true ≡ short n m
-unfolding short
-short_counts n m h = rw (lt-ltb n 18 h)
-
-pub short_out : (n m : ℕ) → 18 ≤ n → ltb m 4 ≡ short n m
-unfolding short
-short_out n m h = rw (le-ltb n 18 h)
 
 pub long_counts : (n m : ℕ) (b : Bool) → b ≡ short n m → b ≡ false → 18 ≤ n
 unfolding short

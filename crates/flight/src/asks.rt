@@ -1,4 +1,5 @@
-// The questions: each puts the record of counts together, asks the tree, and tells the answer.
+// The questions: each puts the record of counts together, asks the tree, and tells the answer. The areas come one by one: the C interface (include/oscjardum.h).
+// The catalogue is put together in each: a helper would take the same six.
 ghost use Rattle.std.specs.Prelude.{◌≡◌, [], ◌∷◌, length};
 ghost use Rattle.meaning.specs.Answers.{is};
 ghost use Rattle.meaning.specs.Child as child;
@@ -10,6 +11,7 @@ use crate::layout::{SHORT, counts_of, short, tell};
 use crate::reply;
 use crate::reply::Reply;
 use questions::Node;
+use record::Catalogue;
 
 // A reply into `out`, by a record of so many numbers.
 fn answer(counts: usize, out: &mut [usize], r: Reply) -> usize
@@ -43,12 +45,15 @@ pub extern "C" fn oscjardum_first_child(
 ) -> usize
     ensures { call result out.new ≡ asked of_edge (first_child (tree_at counts.now) (lent_at words.now bytes.now middles.now larges.now labels.now) (record { place = place; id = id })) (length counts.now) out.old }
 {
-    let c = counts_of(counts);
-    let node = Node {
-        place: place,
-        id: id,
+    let catalogue = Catalogue {
+        words,
+        bytes,
+        middles,
+        larges,
+        labels,
+        counts: counts_of(counts),
     };
-    let said = questions::first_child(words, bytes, middles, larges, labels, c, node);
+    let said = questions::first_child(&catalogue, Node { place, id });
     answer(counts.len(), out, reply::of_edge(said))
 }
 
@@ -67,12 +72,15 @@ pub extern "C" fn oscjardum_next_sibling(
 ) -> usize
     ensures { call result out.new ≡ asked of_edge (next_sibling (tree_at counts.now) (lent_at words.now bytes.now middles.now larges.now labels.now) (record { place = place; id = id })) (length counts.now) out.old }
 {
-    let c = counts_of(counts);
-    let node = Node {
-        place: place,
-        id: id,
+    let catalogue = Catalogue {
+        words,
+        bytes,
+        middles,
+        larges,
+        labels,
+        counts: counts_of(counts),
     };
-    let said = questions::next_sibling(words, bytes, middles, larges, labels, c, node);
+    let said = questions::next_sibling(&catalogue, Node { place, id });
     answer(counts.len(), out, reply::of_edge(said))
 }
 
@@ -91,12 +99,15 @@ pub extern "C" fn oscjardum_label(
 ) -> usize
     ensures { call result out.new ≡ asked of_number (label_in (tree_at counts.now) (lent_at words.now bytes.now middles.now larges.now labels.now) (record { place = place; id = id })) (length counts.now) out.old }
 {
-    let c = counts_of(counts);
-    let node = Node {
-        place: place,
-        id: id,
+    let catalogue = Catalogue {
+        words,
+        bytes,
+        middles,
+        larges,
+        labels,
+        counts: counts_of(counts),
     };
-    let said = questions::label(words, bytes, middles, larges, labels, c, node);
+    let said = questions::label(&catalogue, Node { place, id });
     answer(counts.len(), out, reply::of_label(said))
 }
 
@@ -115,12 +126,15 @@ pub extern "C" fn oscjardum_leaf_count(
 ) -> usize
     ensures { call result out.new ≡ asked of_number (leaves_below (tree_at counts.now) (lent_at words.now bytes.now middles.now larges.now labels.now) (record { place = place; id = id })) (length counts.now) out.old }
 {
-    let c = counts_of(counts);
-    let node = Node {
-        place: place,
-        id: id,
+    let catalogue = Catalogue {
+        words,
+        bytes,
+        middles,
+        larges,
+        labels,
+        counts: counts_of(counts),
     };
-    let said = questions::leaf_count(words, bytes, middles, larges, labels, c, node);
+    let said = questions::leaf_count(&catalogue, Node { place, id });
     answer(counts.len(), out, reply::of_number(said))
 }
 
@@ -137,8 +151,15 @@ pub extern "C" fn oscjardum_byte_size(
 ) -> usize
     ensures { call result out.new ≡ asked of_number (bytes_held (tree_at counts.now) (lent_at words.now bytes.now middles.now larges.now labels.now)) (length counts.now) out.old }
 {
-    let c = counts_of(counts);
-    let said = questions::byte_size(words, bytes, middles, larges, labels, c);
+    let catalogue = Catalogue {
+        words,
+        bytes,
+        middles,
+        larges,
+        labels,
+        counts: counts_of(counts),
+    };
+    let said = questions::byte_size(&catalogue);
     answer(counts.len(), out, reply::of_number(said))
 }
 
@@ -155,8 +176,15 @@ pub extern "C" fn oscjardum_nodes(
 ) -> usize
     ensures { call result out.new ≡ asked of_number (nodes_in (tree_at counts.now) (lent_at words.now bytes.now middles.now larges.now labels.now)) (length counts.now) out.old }
 {
-    let c = counts_of(counts);
-    let said = questions::nodes(words, bytes, middles, larges, labels, c);
+    let catalogue = Catalogue {
+        words,
+        bytes,
+        middles,
+        larges,
+        labels,
+        counts: counts_of(counts),
+    };
+    let said = questions::nodes(&catalogue);
     answer(counts.len(), out, reply::of_number(said))
 }
 
@@ -173,8 +201,15 @@ pub extern "C" fn oscjardum_is_empty(
 ) -> usize
     ensures { call result out.new ≡ asked of_truth (is_empty_in (tree_at counts.now) (lent_at words.now bytes.now middles.now larges.now labels.now)) (length counts.now) out.old }
 {
-    let c = counts_of(counts);
-    let said = questions::is_empty(words, bytes, middles, larges, labels, c);
+    let catalogue = Catalogue {
+        words,
+        bytes,
+        middles,
+        larges,
+        labels,
+        counts: counts_of(counts),
+    };
+    let said = questions::is_empty(&catalogue);
     answer(counts.len(), out, reply::of_truth(said))
 }
 
@@ -192,9 +227,16 @@ pub extern "C" fn oscjardum_close(
 ) -> usize
     ensures { call result out.new ≡ asked of_number (close_in (tree_at counts.now) (lent_at words.now bytes.now middles.now larges.now labels.now) place) (length counts.now) out.old }
 {
-    let c = counts_of(counts);
-    let said = closes::get_close(words, bytes, middles, larges, labels, c, place);
-    answer(counts.len(), out, reply::of_close(said))
+    let catalogue = Catalogue {
+        words,
+        bytes,
+        middles,
+        larges,
+        labels,
+        counts: counts_of(counts),
+    };
+    let said = closes::get_close(&catalogue, place);
+    answer(counts.len(), out, reply::of_number(said))
 }
 
 // The bit at a place.
@@ -211,7 +253,14 @@ pub extern "C" fn oscjardum_bit(
 ) -> usize
     ensures { call result out.new ≡ asked of_number (bit_in (tree_at counts.now) (lent_at words.now bytes.now middles.now larges.now labels.now) place) (length counts.now) out.old }
 {
-    let c = counts_of(counts);
-    let said = closes::get(words, bytes, middles, larges, labels, c, place);
+    let catalogue = Catalogue {
+        words,
+        bytes,
+        middles,
+        larges,
+        labels,
+        counts: counts_of(counts),
+    };
+    let said = closes::get(&catalogue, place);
     answer(counts.len(), out, reply::of_bit(said))
 }

@@ -9,26 +9,22 @@ ghost use Rattle.flight.specs.Calls.{call, replied};
 use crate::reply::Reply;
 use record::Counts;
 
+// What C is told; no other call answers it (include/oscjardum.h).
 pub const SHORT: usize = 15;
 
 // A record of fewer than 18 numbers, or an `out` of fewer than four.
+#[tactic(auto, unfolding(crate::specs::Layout::short))]
 pub(crate) fn short(counts: usize, out: usize) -> bool
     ensures { result ≡ layout.short counts out }
 {
-    if counts < 18 {
-        return true;
-    }
-    out < 4
+    counts < 18 || out < 4
 }
 
 // Number i, and zero where there is none.
 fn number(counts: &[usize], i: usize) -> usize
     ensures { result ≡ get_or counts.now i 0 }
 {
-    if i < counts.len() {
-        return counts[i];
-    }
-    0
+    counts.get(i).copied().unwrap_or(0)
 }
 
 // Four numbers from a place on.
@@ -48,18 +44,13 @@ fn four_at(counts: &[usize], at: usize) -> [usize; 4]
 pub(crate) fn counts_of(counts: &[usize]) -> Counts
     ensures { tree_in result ≡ tree_at counts.now }
 {
-    let nodes = number(counts, 0);
-    let above = four_at(counts, 2);
-    let bits = [number(counts, 1), above[0], above[1], above[2], above[3]];
-    let bytes = four_at(counts, 6);
-    let middles = four_at(counts, 10);
-    let larges = four_at(counts, 14);
+    let [b1, b2, b3, b4] = four_at(counts, 2);
     Counts {
-        nodes: nodes,
-        bits: bits,
-        bytes: bytes,
-        middles: middles,
-        larges: larges,
+        nodes: number(counts, 0),
+        bits: [number(counts, 1), b1, b2, b3, b4],
+        bytes: four_at(counts, 6),
+        middles: four_at(counts, 10),
+        larges: four_at(counts, 14),
     }
 }
 
@@ -68,10 +59,7 @@ fn put_four(s: &mut [usize], at: usize, a: [usize; 4])
     requires { at + 4 ≤ length s.old }
     ensures { s.new ≡ sets s.old at (four a) }
 {
-    s[at] = a[0];
-    s[at + 1] = a[1];
-    s[at + 2] = a[2];
-    s[at + 3] = a[3];
+    s[at..at + 4].copy_from_slice(&a);
 }
 
 // The numbers that say a record.
@@ -79,16 +67,13 @@ pub(crate) fn put_counts(counts: &mut [usize], c: Counts)
     requires { 18 ≤ length counts.old }
     ensures { counts.new ≡ sets counts.old 0 (numbers_of (tree_in c)) }
 {
-    let bits = c.bits;
-    let bytes = c.bytes;
-    let middles = c.middles;
-    let larges = c.larges;
+    let [b0, b1, b2, b3, b4] = c.bits;
     counts[0] = c.nodes;
-    counts[1] = bits[0];
-    put_four(counts, 2, [bits[1], bits[2], bits[3], bits[4]]);
-    put_four(counts, 6, bytes);
-    put_four(counts, 10, middles);
-    put_four(counts, 14, larges);
+    counts[1] = b0;
+    put_four(counts, 2, [b1, b2, b3, b4]);
+    put_four(counts, 6, c.bytes);
+    put_four(counts, 10, c.middles);
+    put_four(counts, 14, c.larges);
 }
 
 // A reply into `out`.
@@ -96,7 +81,6 @@ pub(crate) fn tell(out: &mut [usize], r: Reply) -> usize
     requires { 4 ≤ length out.old }
     ensures { call result out.new ≡ replied r out.old }
 {
-    let numbers = r.out;
-    put_four(out, 0, numbers);
+    put_four(out, 0, r.out);
     r.returned
 }

@@ -1,24 +1,35 @@
-// Build and growth, with the record of counts.
-ghost use Rattle.std.specs.Prelude.{◌≡◌, ◌≤◌, length};
-ghost use Rattle.balanced_parens.specs.Said.{said};
+// Build and growth, with the record of counts. The areas come one by one: the C interface (include/oscjardum.h).
+ghost use Rattle.std.specs.Prelude.{◌≡◌, ◌≤◌, length, replicate};
+ghost use Rattle.std.proofs.lemmas.List.Edits.{sets};
+ghost use Rattle.record.specs.Record.{said_tree};
 ghost use Rattle.balanced_parens.specs.Areas.{lent_at};
 ghost use Rattle.flight.specs.Calls.{make, kept, building, growing};
 
 use crate::layout::{SHORT, counts_of, put_counts, short, tell};
 use crate::reply;
-use balanced_parens::answer::{Built, is_made};
 use balanced_parens::builder::{build, zero_areas};
 use balanced_parens::growth::grow;
-use words::zero64;
+use record::Counts;
+use refusal::Refusal;
 
 // The record after growth: refused, it stays.
-fn record_grown(counts: &mut [usize], b: Built)
+fn record_grown(counts: &mut [usize], grown: Result<Counts, Refusal>)
     requires { 18 ≤ length counts.old }
-    ensures { counts.new ≡ kept counts.old counts.old (said b) }
+    ensures { counts.new ≡ kept counts.old counts.old (said_tree grown) }
 {
-    let v = b.verdict;
-    if is_made(v) {
-        put_counts(counts, b.counts);
+    if let Ok(c) = grown {
+        put_counts(counts, c);
+    }
+}
+
+// The record after a build: refused, it counts nothing.
+fn record_built(counts: &mut [usize], built: Result<Counts, Refusal>)
+    requires { 18 ≤ length counts.old }
+    ensures { counts.new ≡ kept counts.old (sets counts.old 0 (replicate 18 0)) (said_tree built) }
+{
+    match built {
+        Ok(c) => put_counts(counts, c),
+        Err(_) => counts[..18].fill(0),
     }
 }
 
@@ -40,10 +51,10 @@ pub extern "C" fn oscjardum_build(
 {
     if short(counts.len(), out.len()) {
         zero_areas(words, bytes, middles, larges, labels);
-        zero64(scratch);
+        scratch.fill(0);
         return SHORT;
     }
-    let b = build(
+    let built = build(
         levels,
         list_labels,
         words,
@@ -53,8 +64,8 @@ pub extern "C" fn oscjardum_build(
         labels,
         scratch,
     );
-    put_counts(counts, b.counts);
-    tell(out, reply::of_built(b))
+    record_built(counts, built);
+    tell(out, reply::of_built(built))
 }
 
 // A node more at the list's end. Refused, the areas and the record stay.
@@ -74,13 +85,13 @@ pub extern "C" fn oscjardum_grow(
     ensures { make result out.new counts.new (lent_at words.new bytes.new middles.new larges.new labels.new scratch.new) ≡ growing (lent_at words.old bytes.old middles.old larges.old labels.old scratch.old) counts.old level label out.old }
 {
     if short(counts.len(), out.len()) {
-        zero64(scratch);
+        scratch.fill(0);
         return SHORT;
     }
     let c = counts_of(counts);
-    let b = grow(
+    let grown = grow(
         words, bytes, middles, larges, labels, scratch, c, level, label,
     );
-    record_grown(counts, b);
-    tell(out, reply::of_built(b))
+    record_grown(counts, grown);
+    tell(out, reply::of_built(grown))
 }

@@ -1,4 +1,4 @@
-// The walk, with the record of counts.
+// The walk, with the record of counts. The areas come one by one: the C interface (include/oscjardum.h).
 ghost use Rattle.std.specs.Prelude.{◌≡◌};
 ghost use Rattle.meaning.specs.Questions.{lent_at};
 ghost use Rattle.walk.specs.Said.{rooms_at};
@@ -6,8 +6,8 @@ ghost use Rattle.flight.specs.Calls.{tour, touring};
 
 use crate::layout::{SHORT, counts_of, short, tell};
 use crate::reply;
+use record::Catalogue;
 use walk::walk;
-use words::{zero32, zero64};
 
 // Levels and labels in order into two lists. Refused, the lists are zeros.
 #[unsafe(no_mangle)]
@@ -26,14 +26,19 @@ pub extern "C" fn oscjardum_walk(
     ensures { tour result out.new out_levels.new out_labels.new scratch.new ≡ touring (lent_at words.now bytes.now middles.now larges.now labels.now) counts.now (rooms_at out_levels.old out_labels.old scratch.old) out.old }
 {
     if short(counts.len(), out.len()) {
-        zero32(out_levels);
-        zero32(out_labels);
-        zero64(scratch);
+        out_levels.fill(0);
+        out_labels.fill(0);
+        scratch.fill(0);
         return SHORT;
     }
-    let c = counts_of(counts);
-    let w = walk(
-        words, bytes, middles, larges, labels, c, out_levels, out_labels, scratch,
-    );
-    tell(out, reply::of_walked(w))
+    let catalogue = Catalogue {
+        words,
+        bytes,
+        middles,
+        larges,
+        labels,
+        counts: counts_of(counts),
+    };
+    let walked = walk(&catalogue, out_levels, out_labels, scratch);
+    tell(out, reply::of_number(walked))
 }

@@ -9,12 +9,11 @@ use lib.ListN.{length, get_or, get_or-eq_default}
 use Rattle.meaning.specs.Bits.{tab}
 use Rattle.meaning.specs.Kin.{lower, parent}
 use Rattle.meaning.specs.Areas.{joined}
-use Rattle.meaning.specs.Listing.{node_line, node_text, nodes_text}
+use Rattle.meaning.specs.Listing.{node_text, nodes_text}
 use Rattle.meaning.proofs.Tab.{tab_add, tab_snoc}
 use Rattle.meaning.proofs.Parent.{lower_same, lower_here}
 use Rattle.listing.specs.Said.{Puts}
-use Rattle.listing.specs.declared.Put.{Put}
-use Rattle.listing.specs.declared.Put.TheVariants as put
+use Rattle.std.specs.Prelude.{Option, None, Some}
 use Rattle.listing.proofs.Putting.{next, halted, spelt, told, none_put, same_size}
 
 -- no level is lower than 0
@@ -47,8 +46,10 @@ module _ (vs : List ℕ) (k : ℕ) where
         let w = b.within in
         record { within = omega arith; inside = b.inside; is = b.is ∙ ap (lower vs v) here ∙ lower_same vs v (j - 1) h }
 
-    pub back_found : get_or vs (j - 1) 0 < v → j ≡ parent vs k
-    back_found h = sym (b.is ∙ ap (lower vs v) here ∙ lower_here vs v (j - 1) h ∙ sym here)
+    pub back_found : get_or vs (j - 1) 0 < v → j - 1 + 1 ≡ parent vs k
+    back_found h =
+        let w : j - 1 + 1 ≡ j = omega arith in
+        w ∙ sym (b.is ∙ ap (lower vs v) here ∙ lower_here vs v (j - 1) h ∙ sym here)
 
   pub back_none : {v j : ℕ} → Back v j → j ≤ 0 → 0 ≡ parent vs k
   unfolding lower
@@ -78,36 +79,24 @@ module _ (vs bs : List ℕ) (f : ℕ → ℕ) where
       ∙ ap joined (tab_add t 0 i (n - i) ∙ ap (λ j. tab t 0 i ++ tab t j (n - i)) (zero-add i))
       ∙ joined_append (tab t 0 i) (tab t i (n - i))
 
-  -- a node's line, of the values that calls gave
-  pub node_put : (k v b p n : ℕ) {s t : List ℕ} {a : ℕ} {r : Put} → v ≡ get_or vs k 0 → b ≡ get_or bs k 0 → p ≡ parent vs k → n ≡ f k
-      → Puts s a (node_line (k + 1) v b p n) r t → Puts s a (node_text vs bs f k) r t
-  unfolding node_text
-  node_put k v b p n e g h i q = spelt (λ j. node_line (sym (add-one k) j) (sym e j) (sym g j) (sym h j) (sym i j)) q
-
   -- the lines of the first k nodes stand in t from place a on, up to p
   pub record Listed (s : List ℕ) (a : ℕ) (t : List ℕ) (p k : ℕ) : Type 0 where
     pub within : k ≤ length vs
     pub same : length t ≡ length s
-    pub is : Puts s a (nodes_text vs bs f k) (put.Next p) t
+    pub is : Puts s a (nodes_text vs bs f k) (Some p) t
 
   pub listed_none : (s : List ℕ) (a : ℕ) → a ≤ length s → Listed s a s a 0
   unfolding nodes_text tab joined
   listed_none s a l = record { within = omega arith; same = refl; is = none_put s a l }
 
-  module _ {s t u : List ℕ} {a p k : ℕ} {q : Put} (l : Listed s a t p k) (more : k < length vs) (h : Puts t p (node_text vs bs f k) q u) where
-    pub listed_more : (r : ℕ) → q ≡ put.Next r → Listed s a u r (k + 1)
+  module _ {s t u : List ℕ} {a p k : ℕ} {q : Option ℕ} (l : Listed s a t p k) (more : k < length vs) (h : Puts t p (node_text vs bs f k) q u) where
+    pub listed_more : (r : ℕ) → q ≡ Some r → Listed s a u r (k + 1)
     listed_more r e =
         let g = told (spelt (nodes_suc k) (next l.is refl h)) e in
         record { within = omega arith; same = same_size g; is = g }
 
     -- where some lines do not fit, neither do more
-    pub listed_halted : q ≡ put.Room → Puts s a (nodes_text vs bs f (length vs)) put.Room u
-    listed_halted e =
+    pub listed_halted : {r : Option ℕ} → q ≡ None → r ≡ None → Puts s a (nodes_text vs bs f (length vs)) r u
+    listed_halted e r =
         spelt (nodes_split (k + 1) (length vs) (omega arith))
-        (halted (joined (tab (node_text vs bs f) (k + 1) (length vs - (k + 1)))) (spelt (nodes_suc k) (next l.is refl h)) e)
-
-  pub listed_all : {s t : List ℕ} {a p k : ℕ} → Listed s a t p k → length vs ≤ k → Puts s a (nodes_text vs bs f (length vs)) (put.Next p) t
-  listed_all {k = k} l h =
-      let w = l.within in
-      let e : length vs ≡ k = omega arith in
-      spelt (ap (nodes_text vs bs f) e) l.is
+        (halted (joined (tab (node_text vs bs f) (k + 1) (length vs - (k + 1)))) (spelt (nodes_suc k) (next l.is refl h)) e r)

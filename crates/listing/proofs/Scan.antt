@@ -1,88 +1,104 @@
--- The steps of reading, at a place of the text: one law for each way out of a loop.
+-- The steps of reading a text: one law for each way out of a function.
+use mathlib.Core.Bool.{Bool, true, false}
 use mathlib.Core.Path.{◌≡◌, refl, sym, ap, ◌∙◌}
 use mathlib.Core.Option.{Option, none, some}
-use mathlib.Core.List.{List, ◌∷◌}
-use Prim.Native.Nat.{ℕ, ◌+◌, ◌*◌, ◌<◌, ◌≤◌}
-use native.Mathlib.Numerals.{add-one}
+use mathlib.Core.List.{List, [], ◌∷◌}
+use Prim.Native.Nat.{ℕ, ◌+◌, ◌-◌, ◌*◌, ◌<◌, ◌≤◌}
 use native.Mathlib.Omega.{arith}
-use borrow.Author.Tests.{lt-ltb, le-ltb}
-use lib.Dec.{ltb}
-use lib.ListN.{length, drop, get_or, drop_of_length-le}
-use lib.Seq.{drop-cons}
+use borrow.Author.Tests.{lt-ltb, le-ltb, le-leb, leb-true}
+use lib.Dec.{ltb, leb}
+use lib.ListN.{length}
 use Rattle.meaning.specs.Close.{and_then, test}
 use Rattle.meaning.specs.Listing.{wide, Field, got, Row, got_row, scan, field, row, with_digit, digit}
 use Rattle.meaning.proofs.ReadLine.{then_some, then_none, scan_stop, scan_digit, field_cons}
-use Rattle.listing.specs.Said.{said_value, said_number}
-use Rattle.listing.specs.declared.Value.{Value}
-use Rattle.listing.specs.declared.Value.TheVariants as value
-use Rattle.listing.specs.declared.Number.{Number}
-use Rattle.listing.specs.declared.Number.TheVariants as number
+use Rattle.std.specs.Prelude as rust
+use Rattle.std.specs.Prelude.{None, Some}
+use Rattle.std.specs.Borrow.{Bor}
+use Rattle.std.specs.Char.{digit_value}
+use Rattle.std.specs.Option.{SomeIff}
+use Rattle.std.proofs.lemmas.Str.{digit_value_digit}
+use Rattle.std.proofs.lemmas.Str.Parse.{digit_from_value}
+use Rattle.refusal.specs.Said.{option_of}
+use Rattle.listing.specs.Said.{field_of, row_of}
+use Rattle.listing.specs.declared.Line.{Line}
 
--- the bytes from place i on
-at_place : (s : List ℕ) (i : ℕ) → i < length s → drop i s ≡ get_or s i 0 ∷ drop (i + 1) s
-at_place s i l = rw (add-one, drop-cons s i 0)
-
--- the number that starts at place a with the value v: up to place i it is w
-pub record Scanning (s : List ℕ) (a stop v i w : ℕ) : Type 0 where
-  pub is : scan stop v (drop a s) ≡ scan stop w (drop i s)
-
-pub scanning : (s : List ℕ) (a stop v : ℕ) → Scanning s a stop v a v
-scanning s a stop v = record { is = refl }
-
-module _ {s : List ℕ} {a stop v i w : ℕ} (f : Scanning s a stop v i w) where
-  pub scanned_end : length s ≤ i → none ≡ scan stop v (drop a s)
-  unfolding scan
-  scanned_end l = sym (f.is ∙ ap (scan stop w) (drop_of_length-le s l))
-
-  pub scanned_stop : i < length s → get_or s i 0 ≡ stop → got w (drop (i + 1) s) ≡ scan stop v (drop a s)
-  scanned_stop l e = sym (f.is ∙ ap (scan stop w) (at_place s i l) ∙ scan_stop stop w (get_or s i 0) (drop (i + 1) s) e)
+-- a scan's step, by the first byte
+module _ (stop v b : ℕ) (s t : List ℕ) (c : s ≡ b ∷ t) where
+  pub scan_done : b ≡ stop → got v t ≡ scan stop v s
+  scan_done e = sym (ap (scan stop v) c ∙ scan_stop stop v b t e)
 
   -- by what `with_digit` answered
-  module _ (d : Value) (l : i < length s) (n : get_or s i 0 ≡ stop → ⊥) (e : said_value d ≡ with_digit w (get_or s i 0)) where
-    here : scan stop v (drop a s) ≡ and_then (with_digit w (get_or s i 0)) (λ x. scan stop x (drop (i + 1) s))
-    here = f.is ∙ ap (scan stop w) (at_place s i l) ∙ scan_digit stop w (get_or s i 0) (drop (i + 1) s) n
+  module _ (d : rust.Option ℕ) (n : b ≡ stop → ⊥) (e : option_of d ≡ with_digit v b) where
+    scan_here : scan stop v s ≡ and_then (with_digit v b) (λ x. scan stop x t)
+    scan_here = ap (scan stop v) c ∙ scan_digit stop v b t n
 
-    pub scanned_bad : d ≡ value.Bad → none ≡ scan stop v (drop a s)
-    scanned_bad g = sym (here ∙ then_none (λ x. scan stop x (drop (i + 1) s)) (sym e ∙ ap said_value g))
+    pub scan_bad : {r : rust.Option (ℕ × Bor (List ℕ))} → d ≡ None → r ≡ None → field_of r ≡ scan stop v s
+    scan_bad g h = ap field_of h ∙ sym (scan_here ∙ then_none (λ x. scan stop x t) (sym e ∙ ap option_of g))
 
-    pub scanned_more : (x : ℕ) → d ≡ value.Is x → Scanning s a stop v (i + 1) x
-    scanned_more x g = record { is = here ∙ then_some (λ x. scan stop x (drop (i + 1) s)) x (sym e ∙ ap said_value g) }
+    pub scan_on : (w : ℕ) (x : Option Field) → d ≡ Some w → x ≡ scan stop w t → x ≡ scan stop v s
+    scan_on w x g h = h ∙ sym (scan_here ∙ then_some (λ x. scan stop x t) w (sym e ∙ ap option_of g))
 
-module _ (s : List ℕ) (stop i : ℕ) where
-  pub field_end : length s ≤ i → none ≡ field stop (drop i s)
-  unfolding field
-  field_end l = rw (drop_of_length-le s l)
+pub scan_end : (stop v : ℕ) (s : List ℕ) {r : rust.Option (ℕ × Bor (List ℕ))} → length s ≡ 0 → r ≡ None → field_of r ≡ scan stop v s
+unfolding scan
+scan_end stop v [] l h = ap field_of h
+scan_end stop v (b ∷ t) l h = absurd (omega arith)
 
-  -- by what `digit_of` answered
-  module _ (d : Value) (l : i < length s) (e : said_value d ≡ digit (get_or s i 0)) where
-    field_here : field stop (drop i s) ≡ and_then (digit (get_or s i 0)) (λ v. scan stop v (drop (i + 1) s))
-    field_here = ap (field stop) (at_place s i l) ∙ field_cons stop (get_or s i 0) (drop (i + 1) s)
+pub field_end : (stop : ℕ) (s : List ℕ) {r : rust.Option (ℕ × Bor (List ℕ))} → length s ≡ 0 → r ≡ None → field_of r ≡ field stop s
+unfolding field
+field_end stop [] l h = ap field_of h
+field_end stop (b ∷ t) l h = absurd (omega arith)
 
-    pub field_bad : d ≡ value.Bad → none ≡ field stop (drop i s)
-    field_bad g = sym (field_here ∙ then_none (λ v. scan stop v (drop (i + 1) s)) (sym e ∙ ap said_value g))
+-- by what `digit_of` answered
+module _ (stop b : ℕ) (s t : List ℕ) (c : s ≡ b ∷ t) (d : rust.Option ℕ) (e : option_of d ≡ digit b) where
+  field_here : field stop s ≡ and_then (digit b) (λ v. scan stop v t)
+  field_here = ap (field stop) c ∙ field_cons stop b t
 
-    pub field_on : (v : ℕ) (x : Option Field) → d ≡ value.Is v → x ≡ scan stop v (drop (i + 1) s) → x ≡ field stop (drop i s)
-    field_on v x g h = h ∙ sym (field_here ∙ then_some (λ v. scan stop v (drop (i + 1) s)) v (sym e ∙ ap said_value g))
+  pub field_bad : {r : rust.Option (ℕ × Bor (List ℕ))} → d ≡ None → r ≡ None → field_of r ≡ field stop s
+  field_bad g h = ap field_of h ∙ sym (field_here ∙ then_none (λ v. scan stop v t) (sym e ∙ ap option_of g))
 
--- a line is a level's field and a label's, by what `number_at` answered
+  pub field_on : (v : ℕ) (x : Option Field) → d ≡ Some v → x ≡ scan stop v t → x ≡ field stop s
+  field_on v x g h = h ∙ sym (field_here ∙ then_some (λ v. scan stop v t) v (sym e ∙ ap option_of g))
+
+-- a line is a level's field and a label's, by what `number` answered
 label_step : Field → Option Row
 label_step f = and_then (field 10 f.rest) (λ g. got_row f.value g.value g.rest)
 
-module _ (s : List ℕ) (i : ℕ) (x : Number) (e : said_number s x ≡ field 9 (drop i s)) where
-  pub row_none : x ≡ number.Bad → none ≡ row (drop i s)
+module _ (s : List ℕ) (x : rust.Option (ℕ × Bor (List ℕ))) (e : field_of x ≡ field 9 s) where
+  pub row_none : {r : rust.Option Line} → x ≡ None → r ≡ None → row_of r ≡ row s
   unfolding row label_step
-  row_none g = sym (then_none label_step (sym e ∙ ap (said_number s) g))
+  row_none g h = ap row_of h ∙ sym (then_none label_step (sym e ∙ ap field_of g))
 
-  module _ (v p : ℕ) (g : x ≡ number.Is v p) (y : Number) (h : said_number s y ≡ field 10 (drop p s)) where
-    level_read : row (drop i s) ≡ and_then (field 10 (drop p s)) (λ g. got_row v g.value g.rest)
+  module _ (f : ℕ × Bor (List ℕ)) (g : x ≡ Some f) (y : rust.Option (ℕ × Bor (List ℕ))) (h : field_of y ≡ field 10 f.1.now) where
+    level_read : row s ≡ and_then (field 10 f.1.now) (λ g. got_row f.0 g.value g.rest)
     unfolding row label_step
-    level_read = then_some label_step (record { value = v; rest = drop p s }) (sym e ∙ ap (said_number s) g)
+    level_read = then_some label_step (record { value = f.0; rest = f.1.now }) (sym e ∙ ap field_of g)
 
-    pub row_half : y ≡ number.Bad → none ≡ row (drop i s)
-    row_half k = sym (level_read ∙ then_none (λ g. got_row v g.value g.rest) (sym h ∙ ap (said_number s) k))
+    pub row_half : {r : rust.Option Line} → y ≡ None → r ≡ None → row_of r ≡ row s
+    row_half k q = ap row_of q ∙ sym (level_read ∙ then_none (λ g. got_row f.0 g.value g.rest) (sym h ∙ ap field_of k))
 
-    pub row_got : (w q : ℕ) → y ≡ number.Is w q → got_row v w (drop q s) ≡ row (drop i s)
-    row_got w q k = sym (level_read ∙ then_some (λ g. got_row v g.value g.rest) (record { value = w; rest = drop q s }) (sym h ∙ ap (said_number s) k))
+    pub row_got : (q : ℕ × Bor (List ℕ)) → y ≡ Some q → got_row f.0 q.0 q.1.now ≡ row s
+    row_got q k =
+        sym (level_read ∙ then_some (λ g. got_row f.0 g.value g.rest) (record { value = q.0; rest = q.1.now }) (sym h ∙ ap field_of k))
+
+-- a digit, as `to_digit` answers
+module _ (b : ℕ) where
+  no_digit : (digit_value b < 10 → ⊥) → (x y : Bool) → leb 48 b ≡ x → leb b 57 ≡ y → none ≡ test x (test y (some (b - 48)))
+  unfolding test
+  no_digit n true true p q =
+      let v = digit_value_digit b (leb-true 48 b p, leb-true b 57 q) in
+      let h = leb-true b 57 q in
+      absurd (n (omega arith))
+  no_digit n true false p q = refl
+  no_digit n false y p q = refl
+
+  pub digit_said : (r : rust.Option ℕ) → SomeIff r (digit_value b < 10) (digit_value b) → option_of r ≡ digit b
+  unfolding digit test
+  digit_said None n = no_digit n (leb 48 b) (leb b 57) refl refl
+  digit_said (Some x) (l, e) =
+      let h = digit_from_value b l in
+      let v = digit_value_digit b h in
+      let u : x ≡ b - 48 = omega arith in
+      simp (le-leb 48 b h.0, le-leb b 57 h.1) (ap some u)
 
 -- a digit after a value
 module _ (v b : ℕ) where
@@ -95,19 +111,28 @@ module _ (v b : ℕ) where
   with_digit_lem n = simp (lt-ltb 0 v (omega (arith, n)))
 
   -- by what `digit_of` answered
-  pub with_none : (d : Value) → (v ≡ 0 → ⊥) → said_value d ≡ digit b → d ≡ value.Bad → none ≡ with_digit v b
-  with_none d n e f = sym (with_digit_lem n ∙ then_none (λ d. test (ltb (10 * v + d) wide) (some (10 * v + d))) (sym e ∙ ap said_value f))
+  module _ (d : rust.Option ℕ) (n : v ≡ 0 → ⊥) (e : option_of d ≡ digit b) where
+    pub with_none : {r : rust.Option ℕ} → d ≡ None → r ≡ None → option_of r ≡ with_digit v b
+    with_none f g =
+        ap option_of g
+        ∙ sym (with_digit_lem n ∙ then_none (λ d. test (ltb (10 * v + d) wide) (some (10 * v + d))) (sym e ∙ ap option_of f))
 
-  pub with_some : (d : Value) (x : ℕ) → (v ≡ 0 → ⊥) → said_value d ≡ digit b → d ≡ value.Is x → 10 * v + x < wide → some (10 * v + x) ≡ with_digit v b
-  unfolding test
-  with_some d x n e f h =
-      sym (with_digit_lem n
-      ∙ then_some (λ d. test (ltb (10 * v + d) wide) (some (10 * v + d))) x (sym e ∙ ap said_value f)
-      ∙ simp (lt-ltb (10 * v + x) wide h))
+    module _ (x : ℕ) (f : d ≡ Some x) where
+      with_read : with_digit v b ≡ test (ltb (10 * v + x) wide) (some (10 * v + x))
+      with_read = with_digit_lem n ∙ then_some (λ d. test (ltb (10 * v + d) wide) (some (10 * v + d))) x (sym e ∙ ap option_of f)
 
-  pub with_over : (d : Value) (x : ℕ) → (v ≡ 0 → ⊥) → said_value d ≡ digit b → d ≡ value.Is x → wide ≤ 10 * v + x → none ≡ with_digit v b
-  unfolding test
-  with_over d x n e f h =
-      sym (with_digit_lem n
-      ∙ then_some (λ d. test (ltb (10 * v + d) wide) (some (10 * v + d))) x (sym e ∙ ap said_value f)
-      ∙ simp (le-ltb (10 * v + x) wide h))
+      over : wide ≤ 10 * v + x → none ≡ with_digit v b
+      unfolding test
+      over h = sym (with_read ∙ simp (le-ltb (10 * v + x) wide h))
+
+      -- by what `checked_mul` and `checked_add` answered
+      pub with_large : {r : rust.Option ℕ} → (v * 10 < wide → ⊥) → r ≡ None → option_of r ≡ with_digit v b
+      with_large h g = ap option_of g ∙ over (omega (arith, h))
+
+      pub with_sum : (y : ℕ) (r : rust.Option ℕ) → y ≡ v * 10 → SomeIff r (y + x < wide) (y + x) → option_of r ≡ with_digit v b
+      unfolding test
+      with_sum y None h g = over (omega (arith, g))
+      with_sum y (Some z) h (l, u) =
+          let w : 10 * v + x < wide = omega arith in
+          let t : z ≡ 10 * v + x = omega arith in
+          ap some t ∙ sym (with_read ∙ simp (lt-ltb (10 * v + x) wide w))

@@ -5,45 +5,17 @@ pub mod lines;
 pub mod reader;
 pub mod writer;
 
-// A list of so many entries; TEXT with the first bad line, from 1; or fewer than 512 places lent.
-#[derive(Clone, Copy)]
-pub enum Read {
-    List(usize),
-    Text(usize),
-    Room,
-}
-
-// The place after what was written, or too few bytes lent.
-#[derive(Clone, Copy)]
-pub enum Put {
-    Next(usize),
-    Room,
-}
-
 // What a refusal carries: FULL two values, the others one.
-#[derive(Clone, Copy)]
+#[derive(Clone, Copy, PartialEq, Eq, Debug)]
 pub enum Carried {
     One(usize),
     Two(usize, usize),
 }
 
-// A number of digits.
-#[derive(Clone, Copy)]
-enum Value {
-    Is(u32),
-    Bad,
-}
-
-// A number and the place after the byte that ends it.
-#[derive(Clone, Copy)]
-enum Number {
-    Is(u32, usize),
-    Bad,
-}
-
-// A level, a label and the place after their line.
-#[derive(Clone, Copy)]
-enum Line {
-    Is(u32, u32, usize),
-    Bad,
+// A level, a label and the text after their line.
+#[derive(Clone, Copy, PartialEq, Eq, Debug)]
+struct Line<'a> {
+    level: u32,
+    label: u32,
+    rest: &'a [u8],
 }

@@ -1,129 +1,93 @@
 // Reading: numbers, lines and the list of levels and labels.
-ghost use Rattle.std.specs.Prelude.{◌≡◌, length, drop};
+ghost use Rattle.std.specs.Prelude.{◌≡◌, length};
 ghost use Rattle.meaning.specs.Listing.{digit, with_digit, scan, field, row, reading, read_of};
-ghost use Rattle.listing.specs.Said.{said, said_value, said_number, said_line};
+ghost use Rattle.refusal.specs.Said.{found_number, option_of};
+ghost use Rattle.listing.specs.Said.{field_of, row_of};
 
-use crate::{Line, Number, Read, Value};
+use crate::Line;
+use refusal::Refusal;
+
+// An input has at most so many lines.
+pub const MOST: usize = 512;
 
 // The digit b.
-fn digit_of(b: u8) -> Value
-    ensures { said_value result ≡ digit b }
+fn digit_of(b: u8) -> Option<u32>
+    ensures { option_of result ≡ digit b }
 {
-    if b < 48 {
-        return Value::Bad;
-    }
-    if 57 < b {
-        return Value::Bad;
-    }
-    Value::Is((b - 48) as u32)
+    char::from(b).to_digit(10)
 }
 
-// v with the digit b after it.
-fn with_digit(v: u32, b: u8) -> Value
-    ensures { said_value result ≡ with_digit v b }
+// v with the digit b after it: no digit follows a zero, and the number fits.
+fn with_digit(v: u32, b: u8) -> Option<u32>
+    ensures { option_of result ≡ with_digit v b }
 {
     if v == 0 {
-        return Value::Bad;
+        return None;
     }
-    let d = digit_of(b);
-    let Value::Is(x) = d else {
-        return Value::Bad;
-    };
-    let w = 10 * (v as u64) + (x as u64);
-    if w < 4294967296 {
-        return Value::Is(w as u32);
-    }
-    Value::Bad
+    let d = digit_of(b)?;
+    v.checked_mul(10)?.checked_add(d)
 }
 
-// The digits from a place on, after the value v, up to the byte that ends them.
-fn scan_at(text: &[u8], at: usize, stop: u8, v: u32) -> Number
-    ensures { said_number text.now result ≡ scan stop v (drop at text.now) }
+// The digits at the start of a text, after the value v, up to the byte that ends them: the number, and the text after that byte.
+fn scan(text: &[u8], stop: u8, v: u32) -> Option<(u32, &[u8])>
+    ensures { field_of result ≡ scan stop v text.now }
 {
-    let mut i = at;
-    let mut w = v;
-    while i < text.len() {
-        let b = text[i];
-        if b == stop {
-            return Number::Is(w, i + 1);
-        }
-        let d = with_digit(w, b);
-        match d {
-            Value::Is(x) => {
-                w = x;
+    match text.split_first() {
+        Some((&b, rest)) => {
+            if b == stop {
+                return Some((v, rest));
             }
-            Value::Bad => {
-                return Number::Bad;
-            }
+            scan(rest, stop, with_digit(v, b)?)
         }
-        i += 1;
+        None => None,
     }
-    Number::Bad
 }
 
-// The number at a place, and the byte that ends it.
-fn number_at(text: &[u8], at: usize, stop: u8) -> Number
-    ensures { said_number text.now result ≡ field stop (drop at text.now) }
+// The number at the start of a text, and the text after the byte that ends it.
+fn number(text: &[u8], stop: u8) -> Option<(u32, &[u8])>
+    ensures { field_of result ≡ field stop text.now }
 {
-    if text.len() <= at {
-        return Number::Bad;
-    }
-    let d = digit_of(text[at]);
-    let Value::Is(v) = d else {
-        return Number::Bad;
-    };
-    scan_at(text, at + 1, stop, v)
+    let (&b, rest) = text.split_first()?;
+    scan(rest, stop, digit_of(b)?)
 }
 
-// The line at a place.
-fn line_at(text: &[u8], at: usize) -> Line
-    ensures { said_line text.now result ≡ row (drop at text.now) }
+// The line at the start of a text.
+fn line(text: &[u8]) -> Option<Line<'_>>
+    ensures { row_of result ≡ row text.now }
 {
-    let a = number_at(text, at, 9);
-    let Number::Is(level, next) = a else {
-        return Line::Bad;
-    };
-    let b = number_at(text, next, 10);
-    let Number::Is(label, end) = b else {
-        return Line::Bad;
-    };
-    Line::Is(level, label, end)
+    let (level, middle) = number(text, b'\t')?;
+    let (label, rest) = number(middle, b'\n')?;
+    Some(Line { level, label, rest })
 }
 
-// The levels and labels of an input, and zeros after them. A refusal leaves zeros.
-pub fn read_list(text: &[u8], levels: &mut [u32], labels: &mut [u32]) -> Read
-    ensures { reading (said result) levels.new labels.new ≡ read_of text.now (length levels.old) (length labels.old) }
+// How many levels and labels an input has: they stand at the start of the two slices, with zeros after them. TEXT, which tells the first
+// bad line, leaves zeros; so do fewer places than an input may have lines, and nothing is read into them. Two lists, as a build takes them.
+pub fn read_list(
+    text: &[u8],
+    levels: &mut [u32],
+    labels: &mut [u32],
+) -> Result<Option<usize>, Refusal>
+    ensures { reading (found_number result) levels.new labels.new ≡ read_of text.now (length levels.old) (length labels.old) }
 {
-    words::zero32(levels);
-    words::zero32(labels);
-    if levels.len() < 512 {
-        return Read::Room;
+    levels.fill(0);
+    labels.fill(0);
+    if levels.len() < MOST || labels.len() < MOST {
+        return Ok(None);
     }
-    if labels.len() < 512 {
-        return Read::Room;
-    }
-    let mut at: usize = 0;
+    let mut rest = text;
     let mut k: usize = 0;
-    while at < text.len() {
-        if k == 512 {
-            words::zero32(levels);
-            words::zero32(labels);
-            return Read::Text(513);
-        }
-        let l = line_at(text, at);
-        match l {
-            Line::Is(level, label, next) => {
-                levels[k] = level;
-                labels[k] = label;
-                at = next;
-            }
-            Line::Bad => {
-                words::zero32(levels);
-                words::zero32(labels);
-                return Read::Text(k + 1);
-            }
-        }
+    // A step is a line.
+    while !rest.is_empty() {
+        let next = if k < MOST { line(rest) } else { None };
+        let Some(line) = next else {
+            levels.fill(0);
+            labels.fill(0);
+            return Err(Refusal::Text(k + 1));
+        };
+        levels[k] = line.level;
+        labels[k] = line.label;
+        rest = line.rest;
         k += 1;
     }
-    Read::List(k)
+    Ok(Some(k))
 }

@@ -10,13 +10,13 @@ use Rattle.meaning.specs.Listing.{listwalk_of}
 use Rattle.meaning.proofs.If.{if_true, if_false}
 use Rattle.meaning.proofs.TextSize.{listwalk_size, listwalk_cut}
 use Rattle.listing.specs.Said.{Puts}
-use Rattle.listing.specs.declared.Put.{Put}
-use Rattle.listing.specs.declared.Put.TheVariants as put
+use Rattle.std.specs.Prelude.{Option, None, Some}
+use Rattle.std.specs.Option.{unwrap_or}
 use Rattle.listing.proofs.Putting.{is_next, is_room}
 use Rattle.listwalk.specs.Answered.{all_or_none, Answered}
 
-module _ {s b a : List ℕ} {p : Put} (f : Puts b 0 (listwalk_of s) p a) where
-  pub all_there : (n : ℕ) → p ≡ put.Next n → Answered s b n a
+module _ {s b a : List ℕ} {p : Option ℕ} (f : Puts b 0 (listwalk_of s) p a) where
+  all_there : (n : ℕ) → p ≡ Some n → Answered s b n a
   unfolding all_or_none
   all_there n e =
       let x = listwalk_of s in
@@ -31,7 +31,7 @@ module _ {s b a : List ℕ} {p : Put} (f : Puts b 0 (listwalk_of s) p a) where
         text = λ k. v;
       }
 
-  pub none_there : p ≡ put.Room → Answered s b 0 a
+  none_there : p ≡ None → Answered s b 0 a
   unfolding all_or_none
   none_there e =
       let x = listwalk_of s in
@@ -42,6 +42,11 @@ module _ {s b a : List ℕ} {p : Put} (f : Puts b 0 (listwalk_of s) p a) where
         bytes = f.bytes;
         text = λ k. absurd (omega (arith, listwalk_size s));
       }
+
+-- the count that the program goes on with
+pub answered : {s b a : List ℕ} (p : Option ℕ) → Puts b 0 (listwalk_of s) p a → Answered s b (unwrap_or p 0) a
+answered (Some n) f = all_there f n refl
+answered None f = none_there f refl
 
 -- any two outcomes agree
 pub answers_agree : {s b : List ℕ} {n n' : ℕ} {a a' : List ℕ} → Answered s b n a → Answered s b n' a' → (n ≡ n') × (a ≡ a')

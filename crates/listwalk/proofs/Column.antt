@@ -13,32 +13,32 @@ use Rattle.meaning.specs.Child.{IsNode}
 use Rattle.meaning.specs.Sibling.{next}
 use Rattle.meaning.specs.Kin.{node_at}
 use Rattle.meaning.specs.Areas.{joined}
-use Rattle.meaning.specs.Build.{tree_of, lent_of}
-use Rattle.meaning.specs.Questions.{lent_at, next_sibling, edge_of, heard}
+use Rattle.meaning.specs.Build as meant
+use Rattle.meaning.specs.Questions.{next_sibling, edge_of, heard}
 use Rattle.meaning.specs.Listing.{sibling_id, id_of, node_line, node_text, nodes_text}
 use Rattle.meaning.proofs.Tab.{length_tab, get_d_tab, tab_snoc, tab_same}
 use Rattle.meaning.proofs.Ask.{node_is}
 use Rattle.meaning.proofs.Kin.{node_of_lem, level_le}
 use Rattle.meaning.proofs.Questions.{next_sibling_lem}
 use Rattle.meaning.proofs.Listwalk.{sibling_heard}
-use Rattle.record.specs.declared.Counts.{Counts}
-use Rattle.record.specs.Record.{tree_in}
+use Rattle.record.specs.declared.Catalogue.{Catalogue}
+use Rattle.record.specs.Record.{tree_of, lent_of}
 use Rattle.questions.specs.Said.{node_of, said_edge}
 use Rattle.questions.specs.declared.Node.{Node}
-use Rattle.questions.specs.declared.Refusal.{Refusal}
-use Rattle.questions.specs.declared.Linked.{Linked}
-use Rattle.questions.specs.declared.Linked.TheVariants as linked
+use Rattle.questions.specs.declared.Edge.{Edge}
+use Rattle.refusal.specs.declared.Refusal.{Refusal}
+use Rattle.std.specs.Prelude.{Option, None, Some, Result, Ok, Err}
 use Rattle.questions.proofs.Built.{next_sibling_matches}
 use Rattle.listing.specs.Said.{ids_in}
 use Rattle.meaning.proofs.Runs.{sets_append}
 use Rattle.listwalk.specs.Standing.{Standing}
 
-module _ {vs : List ℕ} {c : Counts} {w b m g u : List ℕ} {k : ℕ} (s : Standing vs c w b m g u) (h : k < length vs) where
+module _ {vs : List ℕ} {d : Catalogue} {k : ℕ} (s : Standing vs d) (h : k < length vs) where
   -- the node of list place k has a place
   pub place_fits : get_or vs k 0 ≤ 2 * k
   place_fits = level_le vs s.accepted.rule k h
 
-  module _ (e : Linked) (x y : ℕ) (p : x ≡ 2 * k + 1 - get_or vs k 0) (i : y ≡ k + 1) (f : said_edge e ≡ next_sibling (tree_in c) (lent_at w b m g u) (record { place = x; id = y })) where
+  module _ (e : Result (Option Edge) Refusal) (x y : ℕ) (p : x ≡ 2 * k + 1 - get_or vs k 0) (i : y ≡ k + 1) (f : said_edge e ≡ next_sibling (tree_of d) (lent_of d) (record { place = x; id = y })) where
     n : Node
     n = record { place = x; id = y }
 
@@ -46,28 +46,28 @@ module _ {vs : List ℕ} {c : Counts} {w b m g u : List ℕ} {k : ℕ} (s : Stan
     unfolding node_at n
     here = node_is x (2 * k + 1 - get_or vs k 0) y (suc k) p (i ∙ add-one k)
 
-    said_sibling : said_edge e ≡ next_sibling (tree_of vs) (lent_of vs s.labels s.rooms) (node_at vs k)
+    said_sibling : said_edge e ≡ next_sibling (meant.tree_of vs) (meant.lent_of vs s.labels s.rooms) (node_at vs k)
     unfolding n
     said_sibling =
         let a = s.accepted in
         let o = node_of_lem vs a.rule k h in
-        next_sibling_matches vs s.labels s.rooms a c s.tree n (subst (IsNode (string vs)) (sym here) o) e
-        (f ∙ ap (λ z. next_sibling (tree_in c) z (node_of n)) s.areas)
+        next_sibling_matches vs s.labels s.rooms a d.counts s.tree n (subst (IsNode (string vs)) (sym here) o) e
+        (f ∙ ap (λ z. next_sibling (tree_of d) z (node_of n)) s.areas)
         ∙ ap (λ z. edge_of s.labels (next (string vs) z)) here
         ∙ sym (next_sibling_lem vs s.labels s.rooms a (node_at vs k) o)
 
     said_id : id_of (heard (said_edge e)) ≡ sibling_id vs k
     said_id = ap (λ x. id_of (heard x)) said_sibling ∙ sibling_heard vs s.labels s.rooms s.accepted k h
 
-    pub sibling_edge : (q : Node) (l : ℕ) → e ≡ linked.Edge q l → q.id ≡ sibling_id vs k
+    pub sibling_edge : (q : Option Edge) (z : Edge) → e ≡ Ok q → q ≡ Some z → z.node.id ≡ sibling_id vs k
     unfolding id_of heard
-    sibling_edge q l d = sym (ap (λ x. id_of (heard (said_edge x))) d) ∙ said_id
+    sibling_edge q z d o = sym (ap (λ x. id_of (heard (said_edge x))) (d ∙ ap Ok o)) ∙ said_id
 
-    pub sibling_nothing : e ≡ linked.Nothing → 0 ≡ sibling_id vs k
+    pub sibling_nothing : (q : Option Edge) → e ≡ Ok q → q ≡ None → 0 ≡ sibling_id vs k
     unfolding id_of heard
-    sibling_nothing d = sym (ap (λ x. id_of (heard (said_edge x))) d) ∙ said_id
+    sibling_nothing q d o = sym (ap (λ x. id_of (heard (said_edge x))) (d ∙ ap Ok o)) ∙ said_id
 
-    pub sibling_refused : (r : Refusal) → e ≡ linked.Refused r → 0 ≡ sibling_id vs k
+    pub sibling_refused : (r : Refusal) → e ≡ Err r → 0 ≡ sibling_id vs k
     unfolding id_of heard
     sibling_refused r d = sym (ap (λ x. id_of (heard (said_edge x))) d) ∙ said_id
 

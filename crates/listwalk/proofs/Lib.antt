@@ -1,5 +1,5 @@
 pub mod Column
-pub mod Verdict
+pub mod Size
 pub mod Build
 pub mod Answered
 pub mod Determined

@@ -1,45 +1,16 @@
 -- Words copied to the front of a part, and what bits then stand there.
-use mathlib.Core.Path.{◌≡◌, refl, sym, ap, ap₂, ◌∙◌}
+use mathlib.Core.Path.{◌≡◌, ap, ap₂, ◌∙◌}
 use mathlib.Core.Bool.{true}
 use mathlib.Core.List.{List}
-use Prim.Native.Nat.{ℕ, ◌+◌, ◌-◌, ◌/◌, ◌%◌, ◌≤◌, ◌<◌}
-use native.Mathlib.Nat.{zero-add}
-use native.Mathlib.Numerals.{add-one}
+use Prim.Native.Nat.{ℕ, ◌+◌, ◌-◌, ◌/◌, ◌%◌, ◌<◌}
 use native.Mathlib.Omega.{arith}
 use lib.Dec.{eqb}
-use lib.ListN.{length, get_or, set, take, drop, length-set, length-take, get_or-append}
-use lib.Seq.{paste, paste-zero, paste-suc, length-paste, get_or-take}
+use lib.ListN.{length, get_or, set, take, drop, length-take, get_or-append}
+use lib.Seq.{paste, length-paste, get_or-take}
 use Rattle.meaning.specs.Bits.{bit, bit_at, bits_of, pack, stored, word_count}
 use Rattle.meaning.proofs.Stored.{bits_same, length_bits}
 use Rattle.meaning.proofs.Pack.{pack_set}
 use Rattle.longer.specs.Longer.{Copying, Turning}
-
--- j words are there
-pub record Copied (ws d part : List ℕ) (count j : ℕ) : Type 0 where
-  pub content : part ≡ paste d 0 ws j
-  pub within : j ≤ count
-  pub from : count ≤ length ws
-  pub to : count ≤ length d
-  pub same : length part ≡ length d
-
-pub copied_none : (ws d : List ℕ) (count : ℕ) → (count ≤ length ws) × (count ≤ length d) → Copied ws d d count 0
-copied_none ws d count h = record { content = paste-zero d 0 ws; within = omega arith; from = h.0; to = h.1; same = refl }
-
-pub copied_more : (ws d part : List ℕ) (count j : ℕ) → Copied ws d part count j → j < count → Copied ws d (set part j (get_or ws j 0)) count (j + 1)
-copied_more ws d part count j c h =
-    record {
-      content =
-          ap (λ p. set p j (get_or ws j 0)) c.content ∙ ap (λ k. set (paste d 0 ws j) k (get_or ws j 0)) (sym (zero-add j))
-          ∙ paste-suc d 0 ws j 0 (omega (arith, c.to)) (omega (arith, c.from))
-          ∙ ap (paste d 0 ws) (sym (add-one j));
-      within = omega arith;
-      from = c.from;
-      to = c.to;
-      same = length-set part j (get_or ws j 0) ∙ c.same;
-    }
-
-pub copied_all : (ws d part : List ℕ) (count j : ℕ) → Copied ws d part count j → count ≤ j → part ≡ paste d 0 ws count
-copied_all ws d part count j c h = let e : j ≡ count = omega (arith, c.within) in c.content ∙ ap (paste d 0 ws) e
 
 -- the bits of whole words
 same_bits : (ws d : List ℕ) (m : ℕ) → Copying ws d m → bits_of (paste d 0 ws (word_count m)) m ≡ bits_of ws m

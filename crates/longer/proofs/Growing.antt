@@ -25,8 +25,9 @@ use Rattle.meaning.proofs.Count.{in_length}
 use Rattle.meaning.proofs.Runs.{take_zeros}
 use Rattle.pioneers.specs.Placed.{placing, holding, list_checks}
 use Rattle.pioneers.proofs.Parts.{part_is, part_new}
-use Rattle.longer.specs.Longer.{said, longer_checks, longer_in, LastOne, Turning}
-use Rattle.longer.specs.declared.Longer.TheVariants as longer
+use Rattle.refusal.specs.Said.{refusal_of}
+use Rattle.refusal.specs.declared.Refusal.TheVariants.{Many, Level, Room, Broken}
+use Rattle.longer.specs.Longer.{longer_checks, longer_in, LastOne, Turning}
 
 -- the string is sound
 pub record Sound (ws : List ℕ) (n m : ℕ) : Type 0 where
@@ -117,7 +118,7 @@ module _ (ws z : List ℕ) (n m v k : ℕ) (w : z ≡ replicate k 0) (r : Bool) 
   unfolding longer_in
   refused o e = ap (placing (some o)) w ∙ sym (if_some _ _ o e)
 
-  pub longer_broken : not r ≡ true → placing (said longer.Broken) z ≡ longer_in ws n m v k
+  pub longer_broken : not r ≡ true → placing (some (refusal_of Broken)) z ≡ longer_in ws n m v k
   unfolding longer_checks list_checks first_of check after
   longer_broken e =
       refused _ (ap (λ a. after a (leb (length longest) greatest) (offending longest) (leb (2 * length longest + 2) k)) (sym q ∙ not_true r e))
@@ -138,7 +139,7 @@ module _ (ws z : List ℕ) (n m v k : ℕ) (w : z ≡ replicate k 0) (r : Bool) 
     size : length z ≡ k
     size = ap length w ∙ length-replicate k 0
 
-    pub longer_many : greatest ≤ n → placing (said (longer.Many (n + 1))) z ≡ longer_in ws n m v k
+    pub longer_many : greatest ≤ n → placing (some (refusal_of (Many (n + 1)))) z ≡ longer_in ws n m v k
     unfolding longer_checks list_checks first_of check after
     longer_many h =
         ap (λ x. placing (refuse 2 (x ∷ [])) z) (sym long)
@@ -153,7 +154,7 @@ module _ (ws z : List ℕ) (n m v k : ℕ) (w : z ≡ replicate k 0) (r : Bool) 
       top : p + most (levels_of (bits_of ws m)) + 2 ≡ m
       top = high ws n m p s l
 
-      pub longer_level : m - 2 - p < v → placing (said (longer.Level n)) z ≡ longer_in ws n m v k
+      pub longer_level : m - 2 - p < v → placing (some (refusal_of (Level n))) z ≡ longer_in ws n m v k
       unfolding longer_checks list_checks first_of check level_rule after
       longer_level h =
           refused _
@@ -165,7 +166,7 @@ module _ (ws z : List ℕ) (n m v k : ℕ) (w : z ≡ replicate k 0) (r : Bool) 
         allowed : offending longest ≡ none
         allowed = (offending_none longest).1 (may_come (bits_of ws m) s.root v (omega (arith, top)))
 
-        pub longer_room : length z < 2 * n + 4 → placing (said longer.Room) z ≡ longer_in ws n m v k
+        pub longer_room : length z < 2 * n + 4 → placing (some (refusal_of (Room 5))) z ≡ longer_in ws n m v k
         unfolding longer_checks list_checks first_of check level_rule after
         longer_room h =
             refused _
@@ -183,7 +184,7 @@ module _ (ws z : List ℕ) (n m v k : ℕ) (w : z ≡ replicate k 0) (r : Bool) 
           part_length = ap length (part_is z (n + 2)) ∙ length-drop (n + 2) z ∙ ap (λ (x : ℕ). x - (n + 2)) size
 
           pub longer_made : (part : List ℕ) → part ≡ pack (length (take (length z - (n + 2)) (drop (n + 2) z))) (set (bits_of ws m) (m - 1 - v) true)
-              → placing (said longer.Made) (take (n + 2) z ++ (part ++ drop (length z - (n + 2)) (drop (n + 2) z))) ≡ longer_in ws n m v k
+              → placing none (take (n + 2) z ++ (part ++ drop (length z - (n + 2)) (drop (n + 2) z))) ≡ longer_in ws n m v k
           unfolding longer_in holding
           longer_made part g =
               ap (placing none)

@@ -1,5 +1,3 @@
-pub mod Sounds
-pub mod Last
 pub mod Copies
 pub mod Growing
 pub mod Agree

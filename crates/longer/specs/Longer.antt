@@ -3,19 +3,9 @@ use Rattle.std.specs.Prelude.{◌≡◌, true, List, [], ◌∷◌, ◌++◌, �
 use Rattle.std.proofs.Math.Option.{Option, none, some}
 use Rattle.meaning.specs.Answers.{Refusal}
 use Rattle.meaning.specs.Bits.{bit_at, bits_of}
-use Rattle.meaning.specs.Refusals.{refuse, check, first_of}
+use Rattle.meaning.specs.Refusals.{check, first_of}
 use Rattle.meaning.specs.Growth.{sound_in, levels_of, grown}
 use Rattle.pioneers.specs.Placed.{Placing, placing, holding, list_checks}
-use Rattle.longer.specs.declared.Longer.{Longer}
-use Rattle.longer.specs.declared.Longer.TheVariants as longer
-
--- 01's number and values for each answer
-abbrev pub said : Longer → Option Refusal
-said longer.Made = none
-said longer.Broken = refuse 9 (0 ∷ [])
-said (longer.Many n) = refuse 2 (n ∷ [])
-said (longer.Level k) = refuse 3 (k ∷ [])
-said longer.Room = refuse 4 (5 ∷ [])
 
 -- "BROKEN .., then 2, 3 and so on for the longer list": those of the string, the list and scratch, of k words
 unfoldable pub longer_checks : List ℕ → ℕ → ℕ → ℕ → ℕ → List (Option Refusal)

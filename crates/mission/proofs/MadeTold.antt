@@ -17,8 +17,11 @@ use Rattle.meaning.specs.Refusals.{full_block, full_from, checks, refusal}
 use Rattle.meaning.specs.Build.{Lent, Tree, rooms_of}
 use Rattle.meaning.specs.Growth.{levels_of, bits_in, grow_refusal}
 use Rattle.meaning.proofs.NeverDeep.{never_six, growth_never_six}
-use Rattle.record.specs.Record.{reply_of}
-use Rattle.record.specs.declared.Counts.{Counts}
+use Rattle.std.specs.Prelude.{Ok, Err}
+use Rattle.refusal.specs.Said as code
+use Rattle.refusal.specs.Said.{refused_of}
+use Rattle.balanced_parens.specs.Said.{said}
+use Rattle.balanced_parens.specs.Demands.{Made}
 use Rattle.mission.specs.Numbered as numbered
 use Rattle.mission.specs.Numbered.{Numbered}
 use Rattle.mission.specs.FirstDemand.{Told, value}
@@ -71,7 +74,7 @@ growth_numbered t a v r e =
     (then (check_refuses _ 9 _ (inl numbered.broken)) (checks_refuse (levels_of (bits_of a.held.words (bits_in t)) ++ v ∷ []) (rooms_of a)))) r e)
     (growth_never_six t a v r e)
 
--- the answer, by the refusal and the counts of its verdict
-pub reply_told : {R : Refusal → Type 0} (o : Option Refusal) (c : Counts) → ((r : Refusal) → o ≡ some r → Given R r) → Told R (reply_of o c)
-reply_told none c h = value _
-reply_told (some r) c h = refused_told (h r refl)
+-- the answer, by its refusal
+pub reply_told : {R : Refusal → Type 0} (r : Made) → ((x : Refusal) → refused_of r ≡ some x → Given R x) → Told R (said r)
+reply_told (Ok c) h = value _
+reply_told (Err x) h = refused_told (h (code.refusal_of x) refl)

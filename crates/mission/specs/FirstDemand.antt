@@ -14,7 +14,7 @@ use Rattle.meaning.specs.Child as child
 use Rattle.meaning.specs.Build.{Lent, Tree, rooms_of}
 use Rattle.meaning.specs.Refusals.{refusal}
 use Rattle.meaning.specs.Growth.{grow_refusal}
-use Rattle.meaning.specs.Questions.{lent_at, bit_in, close_in, first_child, next_sibling, label_in, leaves_below, nodes_in, is_empty_in, bytes_held}
+use Rattle.meaning.specs.Questions.{bit_in, close_in, first_child, next_sibling, label_in, leaves_below, nodes_in, is_empty_in, bytes_held}
 use Rattle.meaning.specs.Walking as walking
 use Rattle.meaning.specs.Walking.{walking}
 use Rattle.meaning.specs.BitString.{string_get, string_rank, string_select, string_pred, string_succ, string_size, one_from}
@@ -23,19 +23,19 @@ use Rattle.meaning.specs.Dictionary.{Dict, rank_of, select_of, pred_of, succ_of}
 use Rattle.meaning.specs.Answers.{or_broken}
 use Rattle.meaning.specs.Direct.{DictRooms, dict_rank, dict_select, dict_pred, dict_succ, dict_past, dict_size, dict_refusal, dict_rooms, dict_zeroed}
 use Rattle.meaning.specs.Direct.{dict_plan, dict_write, dict_build}
-use Rattle.record.specs.Record.{tree_in}
-use Rattle.record.specs.declared.Counts.{Counts}
-use Rattle.closes.specs.Said as close_said
+use Rattle.refusal.specs.Said.{said_number, said_truth, said_bit, found_number, found_bit}
+use Rattle.record.specs.Record.{tree_in, tree_of, lent_of}
+use Rattle.record.specs.declared.Catalogue.{Catalogue}
 use Rattle.closes.proofs as closes
-use Rattle.questions.specs.Said.{node_of, said_edge, said_label, said_number, said_truth}
+use Rattle.questions.specs.Said.{node_of, said_edge}
 use Rattle.questions.proofs as questions
 use Rattle.walk.specs.Said as walk_said
 use Rattle.walk.proofs as walks
-use Rattle.ops.specs.Said.{said_got, said_count, said_spot, said_done}
+use Rattle.bit_string.specs.declared.BitString.{BitString}
 use Rattle.bit_string.specs.Said.{said_step}
 use Rattle.bit_string.proofs as string
-use Rattle.sparse_one_nnd.specs.Said as dict_said
-use Rattle.sparse_one_nnd.specs.Said.{entries_in, dict_at, said_found, said_plan, said_built, after, many, full}
+use Rattle.sparse_one_nnd.specs.Said.{entries_in, areas_in, dict_at, said_entries, after}
+use Rattle.sparse_one_nnd.specs.declared.DictAreas.{DictAreas}
 use Rattle.sparse_one_nnd.proofs.SparseOneNnd as dictionary
 use Rattle.sparse_one_nnd.proofs as own
 use Rattle.balanced_parens.specs.Said.{said}
@@ -77,12 +77,9 @@ pub record Change {A L O : Type 0} (R : Refusal → Type 0) (outcome : Answer A 
   pub told : Told R x
   pub refuses : (r : Refusal) → x ≡ refused r → left ≡ unmade
 
--- A parameter of index k is `.1` k times and then `.0`. The five catalogue areas, with what follows them
-abbrev pub Catalogue : Type 0 → Type 0
-Catalogue X = Bor (List ℕ) × (Bor (List ℕ) × (Bor (List ℕ) × (Bor (List ℕ) × (Bor (List ℕ) × X))))
-
-abbrev pub catalogue_in : {X : Type 0} → Catalogue X → Lent
-catalogue_in a = lent_at a.0.now a.1.0.now a.1.1.0.now a.1.1.1.0.now a.1.1.1.1.0.now
+-- A parameter of index k is `.1` k times and then `.0`. A catalogue, with what follows it
+abbrev pub catalogue_in : {X : Type 0} → Bor Catalogue × X → Lent
+catalogue_in a = lent_of a.0.now
 
 -- all six areas, lent to be written
 abbrev pub Six : Type 0 → Type 0
@@ -92,17 +89,24 @@ Six X =
 abbrev pub six_in : {X : Type 0} → Six X → Lent
 six_in a = areas.lent_at a.0.now a.1.0.now a.1.1.0.now a.1.1.1.0.now a.1.1.1.1.0.now a.1.1.1.1.1.0.now
 
--- the tree by the record of counts behind the catalogue areas
-abbrev pub tree_at : {X : Type 0} → Catalogue (Counts × X) → Tree
-tree_at a = tree_in a.1.1.1.1.1.0
+-- the tree by its record of counts
+abbrev pub tree_at : {X : Type 0} → Bor Catalogue × X → Tree
+tree_at a = tree_of a.0.now
 
--- the node or the place behind the record
-abbrev pub asked_at : {A X : Type 0} → Catalogue (Counts × (A × X)) → A
-asked_at a = a.1.1.1.1.1.1.0
+-- the node or the place behind it
+abbrev pub asked_at : {A X : Type 0} → Bor Catalogue × (A × X) → A
+asked_at a = a.1.0
+
+-- a string's words, and its length
+abbrev pub words_in : {X : Type 0} → Bor BitString × X → List ℕ
+words_in a = a.0.now.words.now
+
+abbrev pub bits_in : {X : Type 0} → Bor BitString × X → ℕ
+bits_in a = a.0.now.len
 
 -- areas 1 to 3
-abbrev pub dict_in : {X : Type 0} → Bor (List ℕ) × (Bor (List ℕ) × (Bor (List ℕ) × X)) → Dict
-dict_in a = dict_at a.0.now a.1.0.now a.1.1.0.now
+abbrev pub dict_in : {X : Type 0} → DictAreas × X → Dict
+dict_in a = areas_in a.0
 
 -- the same, lent to be written
 abbrev pub dict_lent : {X : Type 0} → MutBor (List ℕ) × (MutBor (List ℕ) × (MutBor (List ℕ) × X)) → Dict
@@ -124,6 +128,13 @@ Broken = OneOf (broken ∷ [])
 abbrev pub OnWalk : Refusal → Type 0
 OnWalk r = OneOf (room 5 ∷ room 10 ∷ room 11 ∷ broken ∷ []) r ⊎ ((p : ℕ) × OneOf (place p ∷ close p ∷ []) r)
 
+-- "MANY", which carries the bits, and "FULL with level 0", which carries the level and the block
+abbrev pub many : ℕ → Refusal
+many n = record { number = 2; carries = n ∷ [] }
+
+abbrev pub full : ℕ → Refusal
+full b = record { number = 5; carries = 0 ∷ b ∷ [] }
+
 -- the plan of a dictionary of n bits: "BROKEN (a length past its words), MANY, FULL with level 0" (01)
 abbrev pub OnPlan : ℕ → Refusal → Type 0
 OnPlan n r = OneOf (broken ∷ many n ∷ []) r ⊎ ((b : ℕ) × (r ≡ full b))
@@ -141,7 +152,7 @@ pub record Walks (d : walking.Walked) (x : Answer ℕ) (us cs s us' cs' s' : Lis
 
 pub record FirstDemand : Type 0 where
   -- ---- the tree
-  -- "A refused build leaves zeros in every lent area", `zeros` of `BuildAnswers`, with counts of nothing; "scratch ends as zeros", `scratch`.
+  -- "A refused build leaves zeros in every lent area", `zeros` of `BuildAnswers`; no counts come with it; "scratch ends as zeros", `scratch`.
   -- Refused by the first of 01's checks that fails
   pub build : Total tree.builder.build.Kinds.ps tree.builder.build.Kinds.r tree.builder.build.Reads.Asked tree.builder.build.Reads.Learnt (λ κs a x e.
       Told (λ r. refusal a.0.now a.1.0.now (rooms_of (six_in a.1.1)) ≡ some r) (said x)
@@ -156,7 +167,7 @@ pub record FirstDemand : Type 0 where
   pub next_sibling_lem : Total questions.next_sibling.Kinds.ps questions.next_sibling.Kinds.r questions.next_sibling.Reads.Asked questions.next_sibling.Reads.Learnt (λ κs a x e.
       Question (AtPlace (asked_at a).place) (next_sibling (tree_at a) (catalogue_in a) (node_of (asked_at a))) (said_edge x) (catalogue_in a) (catalogue_in e))
   pub label : Total questions.label.Kinds.ps questions.label.Kinds.r questions.label.Reads.Asked questions.label.Reads.Learnt (λ κs a x e.
-      Question (AtPlace (asked_at a).place) (label_in (tree_at a) (catalogue_in a) (node_of (asked_at a))) (said_label x) (catalogue_in a) (catalogue_in e))
+      Question (AtPlace (asked_at a).place) (label_in (tree_at a) (catalogue_in a) (node_of (asked_at a))) (found_number x) (catalogue_in a) (catalogue_in e))
   pub leaf_count_lem : Total questions.leaf_count.Kinds.ps questions.leaf_count.Kinds.r questions.leaf_count.Reads.Asked questions.leaf_count.Reads.Learnt (λ κs a x e.
       Question (AtPlace (asked_at a).place) (leaves_below (tree_at a) (catalogue_in a) (node_of (asked_at a))) (said_number x) (catalogue_in a) (catalogue_in e))
   pub nodes : Total questions.nodes.Kinds.ps questions.nodes.Kinds.r questions.nodes.Reads.Asked questions.nodes.Reads.Learnt (λ κs a x e.
@@ -166,88 +177,88 @@ pub record FirstDemand : Type 0 where
   pub byte_size_lem : Total questions.byte_size.Kinds.ps questions.byte_size.Kinds.r questions.byte_size.Reads.Asked questions.byte_size.Reads.Learnt (λ κs a x e.
       Question Broken (bytes_held (tree_at a) (catalogue_in a)) (said_number x) (catalogue_in a) (catalogue_in e))
   pub get_close_lem : Total closes.get_close.Kinds.ps closes.get_close.Kinds.r closes.get_close.Reads.Asked closes.get_close.Reads.Learnt (λ κs a x e.
-      Question (AtPlace (asked_at a)) (close_in (tree_at a) (catalogue_in a) (asked_at a)) (close_said.said x) (catalogue_in a) (catalogue_in e))
+      Question (AtPlace (asked_at a)) (close_in (tree_at a) (catalogue_in a) (asked_at a)) (said_number x) (catalogue_in a) (catalogue_in e))
   pub get : Total closes.get.Kinds.ps closes.get.Kinds.r closes.get.Reads.Asked closes.get.Reads.Learnt (λ κs a x e.
-      Question (OneOf (place (asked_at a) ∷ broken ∷ [])) (bit_in (tree_at a) (catalogue_in a) (asked_at a)) (close_said.said_bit x) (catalogue_in a) (catalogue_in e))
+      Question (OneOf (place (asked_at a) ∷ broken ∷ [])) (bit_in (tree_at a) (catalogue_in a) (asked_at a)) (said_bit x) (catalogue_in a) (catalogue_in e))
   pub walk : Total walks.walk.Kinds.ps walks.walk.Kinds.r walks.walk.Reads.Asked walks.walk.Reads.Learnt (λ κs a x e.
-      let own = a.1.1.1.1.1.1 in
-      let own' = e.1.1.1.1.1.1 in
-      Walks (walking (tree_at a) (catalogue_in a) (walk_said.rooms_at own.0.now own.1.0.now own.1.1.0.now)) (walk_said.said x)
+      let own = a.1 in
+      let own' = e.1 in
+      Walks (walking (tree_at a) (catalogue_in a) (walk_said.rooms_at own.0.now own.1.0.now own.1.1.0.now)) (said_number x)
       own.0.now own.1.0.now own.1.1.0.now own'.0.now own'.1.0.now own'.1.1.0.now (catalogue_in a) (catalogue_in e))
-  -- ---- the string: the words, the length, and the place, the rank or the new length
-  pub string_get_lem : Total string.get.Kinds.ps string.get.Kinds.r string.get.Reads.Asked string.get.Reads.Learnt (λ κs a x e.
-      Question Broken (string_get a.0.now a.1.0 a.1.1.0) (said_got x) a.0.now e.0.now)
-  pub string_rank_one : Total string.rank_one.Kinds.ps string.rank_one.Kinds.r string.rank_one.Reads.Asked string.rank_one.Reads.Learnt (λ κs a x e.
-      Question Broken (string_rank true a.0.now a.1.0 a.1.1.0) (said_count x) a.0.now e.0.now)
+  -- ---- the string: its words and length, and the place or the rank; of the changes the words, the length, and the place or the new length
+  pub string_get_lem : Total string.BitString.get.Kinds.ps string.BitString.get.Kinds.r string.BitString.get.Reads.Asked string.BitString.get.Reads.Learnt (λ κs a x e.
+      Question Broken (string_get (words_in a) (bits_in a) a.1.0) (found_bit x) (words_in a) (words_in e))
+  pub string_rank_one : Total string.find.BitStringFid.rank_one.Kinds.ps string.find.BitStringFid.rank_one.Kinds.r string.find.BitStringFid.rank_one.Reads.Asked string.find.BitStringFid.rank_one.Reads.Learnt (λ κs a x e.
+      Question Broken (string_rank true (words_in a) (bits_in a) a.1.0) (said_number x) (words_in a) (words_in e))
   -- "the zero questions past the end are PLACE" (01)
-  pub string_rank_zero : Total string.rank_zero.Kinds.ps string.rank_zero.Kinds.r string.rank_zero.Reads.Asked string.rank_zero.Reads.Learnt (λ κs a x e.
-      Question (OneOf (place a.1.1.0 ∷ broken ∷ [])) (string_rank false a.0.now a.1.0 a.1.1.0) (said_count x) a.0.now e.0.now)
-  pub string_select_one : Total string.select_one.Kinds.ps string.select_one.Kinds.r string.select_one.Reads.Asked string.select_one.Reads.Learnt (λ κs a x e.
-      Question Broken (string_select true a.0.now a.1.0 a.1.1.0) (said_spot x) a.0.now e.0.now)
-  pub string_select_zero : Total string.select_zero.Kinds.ps string.select_zero.Kinds.r string.select_zero.Reads.Asked string.select_zero.Reads.Learnt (λ κs a x e.
-      Question Broken (string_select false a.0.now a.1.0 a.1.1.0) (said_spot x) a.0.now e.0.now)
-  pub string_pred_one : Total string.pred_one.Kinds.ps string.pred_one.Kinds.r string.pred_one.Reads.Asked string.pred_one.Reads.Learnt (λ κs a x e.
-      Question Broken (string_pred true a.0.now a.1.0 a.1.1.0) (said_spot x) a.0.now e.0.now)
-  pub string_pred_zero : Total string.pred_zero.Kinds.ps string.pred_zero.Kinds.r string.pred_zero.Reads.Asked string.pred_zero.Reads.Learnt (λ κs a x e.
-      Question (OneOf (place a.1.1.0 ∷ broken ∷ [])) (string_pred false a.0.now a.1.0 a.1.1.0) (said_spot x) a.0.now e.0.now)
-  pub string_succ_one : Total string.succ_one.Kinds.ps string.succ_one.Kinds.r string.succ_one.Reads.Asked string.succ_one.Reads.Learnt (λ κs a x e.
-      Question Broken (string_succ true a.0.now a.1.0 a.1.1.0) (said_spot x) a.0.now e.0.now)
-  pub string_succ_zero : Total string.succ_zero.Kinds.ps string.succ_zero.Kinds.r string.succ_zero.Reads.Asked string.succ_zero.Reads.Learnt (λ κs a x e.
-      Question (OneOf (place a.1.1.0 ∷ broken ∷ [])) (string_succ false a.0.now a.1.0 a.1.1.0) (said_spot x) a.0.now e.0.now)
-  pub string_byte_size : Total string.byte_size.Kinds.ps string.byte_size.Kinds.r string.byte_size.Reads.Asked string.byte_size.Reads.Learnt (λ κs a x e.
-      Question Broken (string_size a.0.now a.1.0) (said_count x) a.0.now e.0.now)
+  pub string_rank_zero : Total string.find.BitStringFid.rank_zero.Kinds.ps string.find.BitStringFid.rank_zero.Kinds.r string.find.BitStringFid.rank_zero.Reads.Asked string.find.BitStringFid.rank_zero.Reads.Learnt (λ κs a x e.
+      Question (OneOf (place a.1.0 ∷ broken ∷ [])) (string_rank false (words_in a) (bits_in a) a.1.0) (said_number x) (words_in a) (words_in e))
+  pub string_select_one : Total string.find.BitStringFid.select_one.Kinds.ps string.find.BitStringFid.select_one.Kinds.r string.find.BitStringFid.select_one.Reads.Asked string.find.BitStringFid.select_one.Reads.Learnt (λ κs a x e.
+      Question Broken (string_select true (words_in a) (bits_in a) a.1.0) (found_number x) (words_in a) (words_in e))
+  pub string_select_zero : Total string.find.BitStringFid.select_zero.Kinds.ps string.find.BitStringFid.select_zero.Kinds.r string.find.BitStringFid.select_zero.Reads.Asked string.find.BitStringFid.select_zero.Reads.Learnt (λ κs a x e.
+      Question Broken (string_select false (words_in a) (bits_in a) a.1.0) (found_number x) (words_in a) (words_in e))
+  pub string_pred_one : Total string.find.BitStringFid.pred_one.Kinds.ps string.find.BitStringFid.pred_one.Kinds.r string.find.BitStringFid.pred_one.Reads.Asked string.find.BitStringFid.pred_one.Reads.Learnt (λ κs a x e.
+      Question Broken (string_pred true (words_in a) (bits_in a) a.1.0) (found_number x) (words_in a) (words_in e))
+  pub string_pred_zero : Total string.find.BitStringFid.pred_zero.Kinds.ps string.find.BitStringFid.pred_zero.Kinds.r string.find.BitStringFid.pred_zero.Reads.Asked string.find.BitStringFid.pred_zero.Reads.Learnt (λ κs a x e.
+      Question (OneOf (place a.1.0 ∷ broken ∷ [])) (string_pred false (words_in a) (bits_in a) a.1.0) (found_number x) (words_in a) (words_in e))
+  pub string_succ_one : Total string.find.BitStringFid.succ_one.Kinds.ps string.find.BitStringFid.succ_one.Kinds.r string.find.BitStringFid.succ_one.Reads.Asked string.find.BitStringFid.succ_one.Reads.Learnt (λ κs a x e.
+      Question Broken (string_succ true (words_in a) (bits_in a) a.1.0) (found_number x) (words_in a) (words_in e))
+  pub string_succ_zero : Total string.find.BitStringFid.succ_zero.Kinds.ps string.find.BitStringFid.succ_zero.Kinds.r string.find.BitStringFid.succ_zero.Reads.Asked string.find.BitStringFid.succ_zero.Reads.Learnt (λ κs a x e.
+      Question (OneOf (place a.1.0 ∷ broken ∷ [])) (string_succ false (words_in a) (bits_in a) a.1.0) (found_number x) (words_in a) (words_in e))
+  pub string_byte_size : Total string.BitString.byte_size.Kinds.ps string.BitString.byte_size.Kinds.r string.BitString.byte_size.Reads.Asked string.BitString.byte_size.Reads.Learnt (λ κs a x e.
+      Question Broken (string_size (words_in a) (bits_in a)) (said_number x) (words_in a) (words_in e))
   -- the cursor stands first
   pub cursor_step : Total string.Cursor.step.Kinds.ps string.Cursor.step.Kinds.r string.Cursor.step.Reads.Asked string.Cursor.step.Reads.Learnt (λ κs a x e.
-      Question Broken (one_from a.1.0.now a.1.1.0 a.0.next) (said_step x) a.1.0.now e.1.0.now)
+      Question Broken (one_from (words_in a.1) (bits_in a.1) a.0.next) (said_step x) (words_in a.1) (words_in e.1))
   -- "push, set and resize [..] refused, they change nothing" (01)
   pub string_set_lem : Total string.set.Kinds.ps string.set.Kinds.r string.set.Reads.Asked string.set.Reads.Learnt (λ κs a x e.
-      Change (OneOf (place a.1.1.0 ∷ broken ∷ [])) edited (string_set a.0.now a.1.0 a.1.1.0 a.1.1.1.0) (said_done x) a.0.now e.0.now)
+      Change (OneOf (place a.1.1.0 ∷ broken ∷ [])) edited (string_set a.0.now a.1.0 a.1.1.0 a.1.1.1.0) (said_number x) a.0.now e.0.now)
   pub string_push_lem : Total string.push.Kinds.ps string.push.Kinds.r string.push.Reads.Asked string.push.Reads.Learnt (λ κs a x e.
-      Change (OneOf (room 0 ∷ broken ∷ [])) edited (string_push a.0.now a.1.0 a.1.1.0) (said_done x) a.0.now e.0.now)
+      Change (OneOf (room 0 ∷ broken ∷ [])) edited (string_push a.0.now a.1.0 a.1.1.0) (said_number x) a.0.now e.0.now)
   pub string_resize_lem : Total string.resize.Kinds.ps string.resize.Kinds.r string.resize.Reads.Asked string.resize.Reads.Learnt (λ κs a x e.
-      Change (OneOf (room 0 ∷ broken ∷ [])) edited (string_resize a.0.now a.1.0 a.1.1.0) (said_done x) a.0.now e.0.now)
+      Change (OneOf (room 0 ∷ broken ∷ [])) edited (string_resize a.0.now a.1.0 a.1.1.0) (said_number x) a.0.now e.0.now)
   -- ---- the dictionary: the words and the length, areas 1 to 3. "refused, its areas are zero" (01)
   pub dict_build_lem : Total dictionary.build.Kinds.ps dictionary.build.Kinds.r dictionary.build.Reads.Asked dictionary.build.Reads.Learnt (λ κs a x e.
       let rooms : DictRooms = rooms_in (dict_lent a.1.1) in
-      Change (λ r. dict_refusal a.0.now a.1.0 rooms ≡ some r) after (dict_build a.0.now a.1.0 rooms) (said_built x) (dict_zeroed rooms) (dict_lent e.1.1))
+      Change (λ r. dict_refusal a.0.now a.1.0 rooms ≡ some r) after (dict_build a.0.now a.1.0 rooms) (said_entries x) (dict_zeroed rooms) (dict_lent e.1.1))
   -- past as many entries as the third parameter counts; refused, the areas are as they stood
   pub dict_write_lem : Total dictionary.write.Kinds.ps dictionary.write.Kinds.r dictionary.write.Reads.Asked dictionary.write.Reads.Learnt (λ κs a x e.
       let from = entries_in a.1.1.0 in
       Change (λ r. dict_refusal a.0.now a.1.0 (dict_rooms from (dict_lent a.1.1.1)) ≡ some r) after
-      (dict_write a.0.now a.1.0 from (dict_lent a.1.1.1)) (said_built x) (dict_lent a.1.1.1) (dict_lent e.1.1.1))
+      (dict_write a.0.now a.1.0 from (dict_lent a.1.1.1)) (said_entries x) (dict_lent a.1.1.1) (dict_lent e.1.1.1))
   pub dict_plan_lem : Total dictionary.plan.Kinds.ps dictionary.plan.Kinds.r dictionary.plan.Reads.Asked dictionary.plan.Reads.Learnt (λ κs a x e.
-      Question (OnPlan a.1.0) (dict_plan a.0.now a.1.0) (said_plan x) a.0.now e.0.now)
+      Question (OnPlan a.1.0) (dict_plan a.0.now a.1.0) (said_entries x) a.0.now e.0.now)
   -- the record of counts, areas 1 to 3, and the place or the rank
   pub dict_rank_one : Total dictionary.rank_one.Kinds.ps dictionary.rank_one.Kinds.r dictionary.rank_one.Reads.Asked dictionary.rank_one.Reads.Learnt (λ κs a x e.
-      Question Broken (dict_rank (entries_in a.0) (dict_in a.1) a.1.1.1.1.0) (dict_said.said_count x) (dict_in a.1) (dict_in e.1))
+      Question Broken (dict_rank (entries_in a.0) (dict_in a.1) a.1.1.0) (said_number x) (dict_in a.1) (dict_in e.1))
   pub dict_select_one : Total dictionary.select_one.Kinds.ps dictionary.select_one.Kinds.r dictionary.select_one.Reads.Asked dictionary.select_one.Reads.Learnt (λ κs a x e.
-      Question Broken (dict_select (entries_in a.0) (dict_in a.1) a.1.1.1.1.0) (said_found x) (dict_in a.1) (dict_in e.1))
+      Question Broken (dict_select (entries_in a.0) (dict_in a.1) a.1.1.0) (found_number x) (dict_in a.1) (dict_in e.1))
   pub dict_pred_one : Total dictionary.pred_one.Kinds.ps dictionary.pred_one.Kinds.r dictionary.pred_one.Reads.Asked dictionary.pred_one.Reads.Learnt (λ κs a x e.
-      Question Broken (dict_pred (entries_in a.0) (dict_in a.1) a.1.1.1.1.0) (said_found x) (dict_in a.1) (dict_in e.1))
+      Question Broken (dict_pred (entries_in a.0) (dict_in a.1) a.1.1.0) (found_number x) (dict_in a.1) (dict_in e.1))
   pub dict_succ_one : Total dictionary.succ_one.Kinds.ps dictionary.succ_one.Kinds.r dictionary.succ_one.Reads.Asked dictionary.succ_one.Reads.Learnt (λ κs a x e.
-      Question Broken (dict_succ (entries_in a.0) (dict_in a.1) a.1.1.1.1.0) (said_found x) (dict_in a.1) (dict_in e.1))
+      Question Broken (dict_succ (entries_in a.0) (dict_in a.1) a.1.1.0) (found_number x) (dict_in a.1) (dict_in e.1))
   -- it is lent no area
   pub dict_byte_size : Total dictionary.byte_size.Kinds.ps dictionary.byte_size.Kinds.r dictionary.byte_size.Reads.Asked dictionary.byte_size.Reads.Learnt (λ κs a x e.
-      Question Broken (dict_size (entries_in a.0)) (dict_said.said_count x) a.0 e.0)
+      Question Broken (dict_size (entries_in a.0)) (said_number x) a.0 e.0)
   -- the same of a part, which starts past as many entries as the second parameter counts
   pub dict_rank_part : Total dictionary.rank_part.Kinds.ps dictionary.rank_part.Kinds.r dictionary.rank_part.Reads.Asked dictionary.rank_part.Reads.Learnt (λ κs a x e.
-      Question Broken (dict_rank (entries_in a.0) (dict_past (entries_in a.1.0) (dict_in a.1.1)) a.1.1.1.1.1.0) (dict_said.said_count x)
+      Question Broken (dict_rank (entries_in a.0) (dict_past (entries_in a.1.0) (dict_in a.1.1)) a.1.1.1.0) (said_number x)
       (dict_in a.1.1) (dict_in e.1.1))
   pub dict_select_part : Total dictionary.select_part.Kinds.ps dictionary.select_part.Kinds.r dictionary.select_part.Reads.Asked dictionary.select_part.Reads.Learnt (λ κs a x e.
-      Question Broken (dict_select (entries_in a.0) (dict_past (entries_in a.1.0) (dict_in a.1.1)) a.1.1.1.1.1.0) (said_found x)
+      Question Broken (dict_select (entries_in a.0) (dict_past (entries_in a.1.0) (dict_in a.1.1)) a.1.1.1.0) (found_number x)
       (dict_in a.1.1) (dict_in e.1.1))
   pub dict_pred_part : Total dictionary.pred_part.Kinds.ps dictionary.pred_part.Kinds.r dictionary.pred_part.Reads.Asked dictionary.pred_part.Reads.Learnt (λ κs a x e.
-      Question Broken (dict_pred (entries_in a.0) (dict_past (entries_in a.1.0) (dict_in a.1.1)) a.1.1.1.1.1.0) (said_found x)
+      Question Broken (dict_pred (entries_in a.0) (dict_past (entries_in a.1.0) (dict_in a.1.1)) a.1.1.1.0) (found_number x)
       (dict_in a.1.1) (dict_in e.1.1))
   pub dict_succ_part : Total dictionary.succ_part.Kinds.ps dictionary.succ_part.Kinds.r dictionary.succ_part.Reads.Asked dictionary.succ_part.Reads.Learnt (λ κs a x e.
-      Question Broken (dict_succ (entries_in a.0) (dict_past (entries_in a.1.0) (dict_in a.1.1)) a.1.1.1.1.1.0) (said_found x)
+      Question Broken (dict_succ (entries_in a.0) (dict_past (entries_in a.1.0) (dict_in a.1.1)) a.1.1.1.0) (found_number x)
       (dict_in a.1.1) (dict_in e.1.1))
-  -- and of a dictionary's own slices
-  pub dict_rank_lem : Total own.rank.rank.Kinds.ps own.rank.rank.Kinds.r own.rank.rank.Reads.Asked own.rank.rank.Reads.Learnt (λ κs a x e.
-      Question Broken (or_broken (rank_of (dict_in a) a.1.1.1.0)) (dict_said.said_count x) (dict_in a) (dict_in e))
-  pub dict_select_lem : Total own.select.select.Kinds.ps own.select.select.Kinds.r own.select.select.Reads.Asked own.select.select.Reads.Learnt (λ κs a x e.
-      Question Broken (select_of (dict_in a) a.1.1.1.0) (said_found x) (dict_in a) (dict_in e))
-  pub dict_pred_lem : Total own.select.pred.Kinds.ps own.select.pred.Kinds.r own.select.pred.Reads.Asked own.select.pred.Reads.Learnt (λ κs a x e.
-      Question Broken (pred_of (dict_in a) a.1.1.1.0) (said_found x) (dict_in a) (dict_in e))
-  pub dict_succ_lem : Total own.select.succ.Kinds.ps own.select.succ.Kinds.r own.select.succ.Reads.Asked own.select.succ.Reads.Learnt (λ κs a x e.
-      Question Broken (succ_of (dict_in a) a.1.1.1.0) (said_found x) (dict_in a) (dict_in e))
+  -- and of a dictionary's own areas
+  pub dict_rank_lem : Total own.DictAreas.rank.Kinds.ps own.DictAreas.rank.Kinds.r own.DictAreas.rank.Reads.Asked own.DictAreas.rank.Reads.Learnt (λ κs a x e.
+      Question Broken (or_broken (rank_of (dict_in a) a.1.0)) (said_number x) (dict_in a) (dict_in e))
+  pub dict_select_lem : Total own.DictAreas.select.Kinds.ps own.DictAreas.select.Kinds.r own.DictAreas.select.Reads.Asked own.DictAreas.select.Reads.Learnt (λ κs a x e.
+      Question Broken (select_of (dict_in a) a.1.0) (found_number x) (dict_in a) (dict_in e))
+  pub dict_pred_lem : Total own.DictAreas.pred.Kinds.ps own.DictAreas.pred.Kinds.r own.DictAreas.pred.Reads.Asked own.DictAreas.pred.Reads.Learnt (λ κs a x e.
+      Question Broken (pred_of (dict_in a) a.1.0) (found_number x) (dict_in a) (dict_in e))
+  pub dict_succ_lem : Total own.DictAreas.succ.Kinds.ps own.DictAreas.succ.Kinds.r own.DictAreas.succ.Reads.Asked own.DictAreas.succ.Reads.Learnt (λ κs a x e.
+      Question Broken (succ_of (dict_in a) a.1.0) (found_number x) (dict_in a) (dict_in e))

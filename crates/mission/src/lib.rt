@@ -1,133 +1,63 @@
 // The demands, joined to the contracts of all the operations. The functions here only call the questions with the record that a build or growth answered: their check
-// holds the contracts of these against the definitions of specs/Contracts.antt.
+// holds the contracts of these against the definitions of specs/Allowed.antt.
 #![tactic(auto)]
 
-ghost use Rattle.meaning.specs.Questions.{lent_at};
+ghost use Rattle.record.specs.Record.{lent_of};
 ghost use Rattle.mission.specs.Allowed.{GetClose, FirstChild, NextSibling, Label, LeafCount, Nodes, ByteSize, Walks};
 
-use balanced_parens::answer::Built;
-use closes::Closed;
-use questions::{Labelled, Linked, Node, Number};
-use walk::Walked;
+use questions::{Edge, Node};
+use record::Catalogue;
+use refusal::Refusal;
 
-fn get_close(
-    words: &[u64],
-    bytes: &[u8],
-    middles: &[u16],
-    larges: &[u64],
-    labels: &[u32],
-    b: Built,
-    place: usize,
-) -> Closed
-    ensures { GetClose b (lent_at words.now bytes.now middles.now larges.now labels.now) place result }
+fn get_close(catalogue: &Catalogue<'_>, place: usize) -> Result<usize, Refusal>
+    ensures { GetClose (Ok catalogue.now.counts) (lent_of catalogue.now) place result }
 {
-    let c = b.counts;
-    closes::get_close(words, bytes, middles, larges, labels, c, place)
+    closes::get_close(catalogue, place)
 }
 
-fn first_child(
-    words: &[u64],
-    bytes: &[u8],
-    middles: &[u16],
-    larges: &[u64],
-    labels: &[u32],
-    b: Built,
-    node: Node,
-) -> Linked
-    ensures { FirstChild b (lent_at words.now bytes.now middles.now larges.now labels.now) node result }
+fn first_child(catalogue: &Catalogue<'_>, node: Node) -> Result<Option<Edge>, Refusal>
+    ensures { FirstChild (Ok catalogue.now.counts) (lent_of catalogue.now) node result }
 {
-    let c = b.counts;
-    questions::first_child(words, bytes, middles, larges, labels, c, node)
+    questions::first_child(catalogue, node)
 }
 
-fn next_sibling(
-    words: &[u64],
-    bytes: &[u8],
-    middles: &[u16],
-    larges: &[u64],
-    labels: &[u32],
-    b: Built,
-    node: Node,
-) -> Linked
-    ensures { NextSibling b (lent_at words.now bytes.now middles.now larges.now labels.now) node result }
+fn next_sibling(catalogue: &Catalogue<'_>, node: Node) -> Result<Option<Edge>, Refusal>
+    ensures { NextSibling (Ok catalogue.now.counts) (lent_of catalogue.now) node result }
 {
-    let c = b.counts;
-    questions::next_sibling(words, bytes, middles, larges, labels, c, node)
+    questions::next_sibling(catalogue, node)
 }
 
-fn label(
-    words: &[u64],
-    bytes: &[u8],
-    middles: &[u16],
-    larges: &[u64],
-    labels: &[u32],
-    b: Built,
-    node: Node,
-) -> Labelled
-    ensures { Label b (lent_at words.now bytes.now middles.now larges.now labels.now) node result }
+fn label(catalogue: &Catalogue<'_>, node: Node) -> Result<Option<u32>, Refusal>
+    ensures { Label (Ok catalogue.now.counts) (lent_of catalogue.now) node result }
 {
-    let c = b.counts;
-    questions::label(words, bytes, middles, larges, labels, c, node)
+    questions::label(catalogue, node)
 }
 
-fn leaf_count(
-    words: &[u64],
-    bytes: &[u8],
-    middles: &[u16],
-    larges: &[u64],
-    labels: &[u32],
-    b: Built,
-    node: Node,
-) -> Number
-    ensures { LeafCount b (lent_at words.now bytes.now middles.now larges.now labels.now) node result }
+fn leaf_count(catalogue: &Catalogue<'_>, node: Node) -> Result<usize, Refusal>
+    ensures { LeafCount (Ok catalogue.now.counts) (lent_of catalogue.now) node result }
 {
-    let c = b.counts;
-    questions::leaf_count(words, bytes, middles, larges, labels, c, node)
+    questions::leaf_count(catalogue, node)
 }
 
-fn nodes(
-    words: &[u64],
-    bytes: &[u8],
-    middles: &[u16],
-    larges: &[u64],
-    labels: &[u32],
-    b: Built,
-) -> Number
-    ensures { Nodes b (lent_at words.now bytes.now middles.now larges.now labels.now) result }
+fn nodes(catalogue: &Catalogue<'_>) -> Result<usize, Refusal>
+    ensures { Nodes (Ok catalogue.now.counts) (lent_of catalogue.now) result }
 {
-    let c = b.counts;
-    questions::nodes(words, bytes, middles, larges, labels, c)
+    questions::nodes(catalogue)
 }
 
-fn byte_size(
-    words: &[u64],
-    bytes: &[u8],
-    middles: &[u16],
-    larges: &[u64],
-    labels: &[u32],
-    b: Built,
-) -> Number
-    ensures { ByteSize b (lent_at words.now bytes.now middles.now larges.now labels.now) result }
+fn byte_size(catalogue: &Catalogue<'_>) -> Result<usize, Refusal>
+    ensures { ByteSize (Ok catalogue.now.counts) (lent_of catalogue.now) result }
 {
-    let c = b.counts;
-    questions::byte_size(words, bytes, middles, larges, labels, c)
+    questions::byte_size(catalogue)
 }
 
 fn walk(
-    words: &[u64],
-    bytes: &[u8],
-    middles: &[u16],
-    larges: &[u64],
-    labels: &[u32],
-    b: Built,
+    catalogue: &Catalogue<'_>,
     out_levels: &mut [u32],
     out_labels: &mut [u32],
     scratch: &mut [u64],
-) -> Walked
-    ensures { Walks b (lent_at words.now bytes.now middles.now larges.now labels.now) out_levels.old out_labels.old scratch.old out_levels.new out_labels.new scratch.new result }
+) -> Result<usize, Refusal>
+    ensures { Walks (Ok catalogue.now.counts) (lent_of catalogue.now) out_levels.old out_labels.old scratch.old out_levels.new out_labels.new scratch.new result }
 {
-    let c = b.counts;
-    walk::walk(
-        words, bytes, middles, larges, labels, c, out_levels, out_labels, scratch,
-    )
+    walk::walk(catalogue, out_levels, out_labels, scratch)
 }

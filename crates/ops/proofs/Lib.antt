@@ -1,4 +1,4 @@
 pub mod Scan
+pub mod Asked
 pub mod Naive
-pub mod Agree
 pub mod Determined

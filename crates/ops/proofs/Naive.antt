@@ -1,5 +1,5 @@
 -- "the naive pred and succ": pred is select of the rank; succ the place itself if that finds it, else select of one more.
-use mathlib.Core.Path.{◌≡◌, refl, sym, ap, ◌∙◌}
+use mathlib.Core.Path.{◌≡◌, sym, ap, ◌∙◌, subst}
 use mathlib.Core.Bool.{Bool, true, false}
 use mathlib.Core.List.{List}
 use mathlib.Core.Logic.{◌⊎◌, inl, inr}
@@ -7,8 +7,11 @@ use Prim.Native.Nat.{ℕ, suc, ◌+◌, min}
 use native.Mathlib.Numerals.{add-one}
 use native.Mathlib.Omega.{arith}
 use lib.ListN.{get_or, take}
+use lib.Dec.{eqb}
 use borrow.Author.Tests.{eqb-true, eq-eqb}
-use Rattle.meaning.specs.Answers.{Answer, is, nothing, refused}
+use Rattle.std.specs.Prelude.{Option, None, Some}
+use Rattle.std.specs.Option.{option_eq}
+use Rattle.meaning.specs.Answers.{Answer, is}
 use Rattle.meaning.specs.Bits.{opens, as_bit, bits_of}
 use Rattle.meaning.specs.Plain.{side, plain_rank, plain_select, plain_pred, plain_succ}
 use Rattle.meaning.specs.Nearest.{IsSelect}
@@ -16,41 +19,45 @@ use Rattle.meaning.proofs.If.{clash, bit}
 use Rattle.meaning.proofs.Plain.{select_only}
 use Rattle.meaning.proofs.Sought.{ones_next, select_has, pred_select, succ_select, succ_here}
 use Rattle.meaning.proofs.BitString.{marks_upto}
-use Rattle.ops.specs.Said.{is_at}
+use Rattle.refusal.specs.Said.{only_found}
 
 module _ (l : List Bool) (i : ℕ) where
   -- select of the rank finds the place itself, and then there is a one
-  one_there : (a : Answer ℕ) → IsSelect l (opens (take (suc i) l)) a → is_at a i ≡ true → get_or l i false ≡ true
+  one_there : is i ≡ plain_select l (opens (take (suc i) l)) → get_or l i false ≡ true
   unfolding IsSelect
-  one_there (is j) s e = ap (λ k. get_or l k false) (sym (eqb-true j i e)) ∙ s.0
-  one_there nothing s e = absurd (clash e refl)
-  one_there (refused r) s e = absurd s
+  one_there e = (subst (IsSelect l (opens (take (suc i) l))) (sym e) (select_has l (opens (take (suc i) l)))).0
 
   -- or it does not, and there is none
-  none_there : is_at (plain_select l (opens (take (suc i) l))) i ≡ false → get_or l i false ≡ false
+  none_there : (is i ≡ plain_select l (opens (take (suc i) l)) → ⊥) → get_or l i false ≡ false
   unfolding IsSelect
-  none_there e = go (bit (get_or l i false))
+  none_there h = go (bit (get_or l i false))
     where
       go : (get_or l i false ≡ true) ⊎ (get_or l i false ≡ false) → get_or l i false ≡ false
-      go (inl t) =
-          let s : is i ≡ plain_select l (opens (take (suc i) l)) =
-          select_only l (opens (take (suc i) l)) (is i) (t, omega (arith, ones_next l i, ap as_bit t)) in
-          absurd (clash (sym (ap (λ a. is_at a i) s) ∙ eq-eqb i i refl) e)
+      go (inl t) = absurd (h (select_only l (opens (take (suc i) l)) (is i) (t, omega (arith, ones_next l i, ap as_bit t))))
       go (inr z) = z
 
   module _ (k : ℕ) (r : k ≡ opens (take (i + 1) l)) where
     rank : k ≡ opens (take (suc i) l)
     rank = r ∙ ap (λ j. opens (take j l)) (add-one i)
 
-    module _ (s : Answer ℕ) (q : s ≡ plain_select l k) (t : Bool) (e : t ≡ is_at s i) where
-      found : t ≡ is_at (plain_select l (opens (take (suc i) l))) i
-      found = e ∙ ap (λ a. is_at a i) (q ∙ ap (plain_select l) rank)
+    -- what select of the rank finds, and whether it is the place itself
+    module _ (s : Option ℕ) (q : only_found s ≡ plain_select l k) (t : Bool) (e : t ≡ option_eq eqb s (Some i)) where
+      found : only_found s ≡ plain_select l (opens (take (suc i) l))
+      found = q ∙ ap (plain_select l) rank
 
-      pub naive_here : t ≡ true → is i ≡ plain_succ l i
-      naive_here h = succ_here l i (one_there (plain_select l (opens (take (suc i) l))) (select_has l (opens (take (suc i) l))) (sym found ∙ h))
+      same : (o : Option ℕ) → option_eq eqb o (Some i) ≡ true → is i ≡ only_found o
+      same (Some j) h = ap is (sym (eqb-true j i h))
+      same None h = absurd cc
+
+      other : (o : Option ℕ) → option_eq eqb o (Some i) ≡ false → is i ≡ only_found o → ⊥
+      other (Some j) h p = let z : i ≡ j = cc in absurd (clash (eq-eqb j i (sym z)) h)
+      other None h p = absurd cc
+
+      pub naive_here : t ≡ true → only_found s ≡ plain_succ l i
+      naive_here h = let p = same s (sym e ∙ h) in sym p ∙ succ_here l i (one_there (p ∙ found))
 
       still : t ≡ false → opens (take (suc i) l) ≡ opens (take i l)
-      still h = omega (arith, ones_next l i, ap as_bit (none_there (sym found ∙ h)))
+      still h = omega (arith, ones_next l i, ap as_bit (none_there (λ p. other s (sym e ∙ h) (p ∙ sym found))))
 
       -- one more than the rank is no more than the places
       pub naive_few : t ≡ false → k ≡ opens (take i l)

@@ -1,4 +1,3 @@
-pub mod Parts
 pub mod Holds
 pub mod Families
 pub mod Counting

@@ -3,13 +3,13 @@ use mathlib.Core.Path.{◌≡◌, refl, sym, ap, ap₂, ◌∙◌, subst}
 use mathlib.Core.Bool.{Bool, true, false, ◌&&◌}
 use mathlib.Core.Option.{Option, none, some}
 use mathlib.Core.List.{List, [], ◌∷◌}
-use Prim.Native.Nat.{ℕ, ◌+◌, ◌-◌, ◌*◌, ◌/◌, ◌≤◌, ◌<◌}
+use Prim.Native.Nat.{ℕ, ◌+◌, ◌-◌, ◌*◌, ◌≤◌, ◌<◌}
 use native.Mathlib.Omega.{arith}
 use lib.Dec.{leb}
 use lib.ListN.{length, take, drop, replicate, length-replicate}
 use lib.Seq.{sets}
 use borrow.Author.Tests.{le-leb, lt-leb, leb-true}
-use Rattle.meaning.specs.Answers.{Refusal, is, refused, broken}
+use Rattle.meaning.specs.Answers.{Refusal, is, refused}
 use Rattle.meaning.specs.Bits.{bits_of}
 use Rattle.meaning.specs.List.{greatest}
 use Rattle.meaning.specs.Family.{tower}
@@ -22,71 +22,32 @@ use Rattle.meaning.proofs.Accepted.{check_none, first_none}
 use Rattle.meaning.proofs.Runs.{sets_zeros}
 use Rattle.meaning.proofs.OneRoot.{one_root_test}
 use Rattle.meaning.proofs.Root.{root_walk}
-use Rattle.record.specs.Record.{tree_in, Sized}
-use Rattle.record.proofs.Agree.{none_counted, tree_counted}
+use Rattle.record.specs.Record.{tree_in, Sized, said_tree}
+use Rattle.record.specs.declared.Counts.{Counts}
+use Rattle.refusal.specs.Said.{refusal_of}
+use Rattle.refusal.specs.declared.Refusal as refusal
+use Rattle.refusal.specs.declared.Refusal.TheVariants.{Broken}
+use Rattle.std.specs.Prelude.{Result, Ok, Err}
 use Rattle.sparse_one_nnd.specs.Said.{entries_in}
 use Rattle.sparse_one_nnd.specs.declared.SparseOneNnd.{SparseOneNnd}
 use Rattle.pioneers.specs.Placed.{holding}
 use Rattle.pioneers.specs.Scratch.{text_of}
 use Rattle.pioneers.specs.declared.flags.Layout.{Layout}
 use Rattle.pioneers.proofs.Parts.{part_is}
-use Rattle.parentheses.specs.Plans.{said, is_made, alone_of, sizes_of, SizesAre, PlanIs, Standing}
+use Rattle.parentheses.specs.Plans.{alone_of, sizes_of, SizesAre, Takes, PlanIs, Standing}
+use Rattle.parentheses.specs.Rooms.{size_checks}
 use Rattle.parentheses.specs.Writes.{held_at, put, Writing, WrittenIs}
-use Rattle.parentheses.specs.Raises.{lay_of, string_in, rooms_at, string_checks, size_checks, said_raised, made_of, raising, raise_in, refused_of, Raises, Stands, Holds, Fills}
-use Rattle.parentheses.specs.declared.levels.Verdict.{Verdict}
-use Rattle.parentheses.specs.declared.levels.Verdict.TheVariants as verdict
+use Rattle.parentheses.specs.Raises.{lay_of, string_in, rooms_at, string_checks, raising, raise_in, Raises, Raised, Stands, Holds, Fills}
 use Rattle.parentheses.specs.declared.plans.Sizes.{Sizes}
 use Rattle.parentheses.specs.declared.plans.Plan.{Plan}
-use Rattle.parentheses.specs.declared.levels.Raised.{Raised}
 use Rattle.parentheses.proofs.Counting.{few_areas}
-use Rattle.parentheses.proofs.Planning.{made_none, plan_last}
+use Rattle.parentheses.proofs.Planning.{plan_last}
 use Rattle.parentheses.proofs.Written.{held_ext}
 use Rattle.parentheses.proofs.Standing.{string_size, string_text, holds_standing, tidy_holds}
 
--- ---- ROOM
-
-module _ (s : Sizes) (n words bytes middle large labels : ℕ) where
-  five : Bool → Bool → Bool → Bool → Bool → Option Refusal
-  five a b c d e = first_of (check a 4 (0 ∷ []) ∷ check b 4 (1 ∷ []) ∷ check c 4 (2 ∷ []) ∷ check d 4 (3 ∷ []) ∷ check e 4 (4 ∷ []) ∷ [])
-
-  pub room_words : words < s.words → said (verdict.Room 0) ≡ first_of (size_checks s n words bytes middle large labels)
-  unfolding size_checks first_of check five
-  room_words h =
-      sym (ap (λ a. five a (leb s.dict.bytes bytes) (leb (2 * s.dict.middles) middle) (leb (2 * s.dict.larges) large) (leb n labels)) (lt-leb s.words words h))
-
-  module _ (a : s.words ≤ words) where
-    pub room_bytes : bytes < s.dict.bytes → said (verdict.Room 1) ≡ first_of (size_checks s n words bytes middle large labels)
-    unfolding size_checks first_of check five
-    room_bytes h =
-        sym (ap₂ (λ x y. five x y (leb (2 * s.dict.middles) middle) (leb (2 * s.dict.larges) large) (leb n labels)) (le-leb s.words words a) (lt-leb s.dict.bytes bytes h))
-
-    module _ (b : s.dict.bytes ≤ bytes) where
-      upto : (x y z : Bool) → leb (2 * s.dict.middles) middle ≡ x → leb (2 * s.dict.larges) large ≡ y → leb n labels ≡ z
-          → first_of (size_checks s n words bytes middle large labels) ≡ five true true x y z
-      unfolding size_checks five
-      upto x y z e f g =
-          ap₂ (λ p q. five p q (leb (2 * s.dict.middles) middle) (leb (2 * s.dict.larges) large) (leb n labels)) (le-leb s.words words a) (le-leb s.dict.bytes bytes b)
-          ∙ ap₂ (λ p q. five true true p q (leb n labels)) e f ∙ ap (five true true x y) g
-
-      pub room_middle : middle / 2 < s.dict.middles → said (verdict.Room 2) ≡ first_of (size_checks s n words bytes middle large labels)
-      unfolding first_of check five
-      room_middle h = sym (upto false _ _ (lt-leb (2 * s.dict.middles) middle (omega arith)) refl refl)
-
-      module _ (c : s.dict.middles ≤ middle / 2) where
-        pub room_large : large / 2 < s.dict.larges → said (verdict.Room 3) ≡ first_of (size_checks s n words bytes middle large labels)
-        unfolding first_of check five
-        room_large h = sym (upto true false _ (le-leb (2 * s.dict.middles) middle (omega arith)) (lt-leb (2 * s.dict.larges) large (omega arith)) refl)
-
-        module _ (d : s.dict.larges ≤ large / 2) where
-          pub room_labels : labels < n → said (verdict.Room 4) ≡ first_of (size_checks s n words bytes middle large labels)
-          unfolding first_of check five
-          room_labels h =
-              sym (upto true true false (le-leb (2 * s.dict.middles) middle (omega arith)) (le-leb (2 * s.dict.larges) large (omega arith)) (lt-leb n labels h))
-
-          pub room_made : n ≤ labels → said verdict.Made ≡ first_of (size_checks s n words bytes middle large labels)
-          unfolding first_of check five
-          room_made h =
-              sym (upto true true true (le-leb (2 * s.dict.middles) middle (omega arith)) (le-leb (2 * s.dict.larges) large (omega arith)) (le-leb n labels h))
+-- the counts of n nodes
+abbrev made_of : Counts → ℕ → Counts
+made_of c n = record { nodes = n; bits = c.bits; bytes = c.bytes; middles = c.middles; larges = c.larges }
 
 -- ---- the areas filled
 
@@ -156,17 +117,6 @@ module _ (scr : List ℕ) (n : ℕ) (w b m g : List ℕ) (s : Fills scr n (held_
 
 -- ---- a string that stands in scratch
 
-refused_said : (r : Raised) (x : Refusal) → said r.verdict ≡ some x → said_raised r ≡ refused x
-unfolding said_raised
-refused_said r x e = if_some _ _ x e
-
-not_made : (v : Verdict) → is_made v ≡ false → (x : Refusal) × (said v ≡ some x)
-not_made verdict.Made e = absurd (clash refl e)
-not_made (verdict.Full a b) e = (_, refl)
-not_made verdict.Deep e = (_, refl)
-not_made (verdict.Room a) e = (_, refl)
-not_made verdict.Broken e = (_, refl)
-
 first_some : (o : Option Refusal) (rs : List (Option Refusal)) (x : Refusal) → o ≡ some x → first_of (o ∷ rs) ≡ some x
 unfolding first_of
 first_some o rs x e = ap (λ p. first_of (p ∷ rs)) e
@@ -185,10 +135,10 @@ module _ (scr : List ℕ) (n : ℕ) (t : Bool) (q : t ≡ one_root (bits_of (tak
   raise_stands few room h = record { few = few; room = room; root = sym root_is ∙ h }
 
 -- a string without a family
-pub plan_short : (scr : List ℕ) (n : ℕ) → Holds scr n → n < 32 → (r : Plan) → (r.verdict ≡ verdict.Made) × (r.counts ≡ alone_of (2 * n + 2)) × (r.sizes ≡ sizes_of (2 * n + 2))
-    → PlanIs r 4 1 (string_in scr n)
-plan_short scr n h l r q =
-    subst (PlanIs r 4 1) (sym (string_text scr n)) (plan_last scr (lay_of n) 4 1 (holds_standing scr n h, omega arith, omega arith) (omega arith) r q)
+pub plan_short : (scr : List ℕ) (n : ℕ) → Holds scr n → n < 32 → (p : Plan) → (p.counts ≡ alone_of (2 * n + 2)) × (p.sizes ≡ sizes_of (2 * n + 2))
+    → PlanIs (Ok p) 4 1 (string_in scr n)
+plan_short scr n h l p q =
+    subst (Takes p 4 1) (sym (string_text scr n)) (plan_last scr (lay_of n) 4 1 (holds_standing scr n h, omega arith, omega arith) (omega arith) p q)
 
 module _ (scr : List ℕ) (n : ℕ) (a : Held) (labels : ℕ) where
   abbrev S : List Bool
@@ -206,109 +156,97 @@ module _ (scr : List ℕ) (n : ℕ) (a : Held) (labels : ℕ) where
     unfolding raise_in
     within = if_true _ _ (and_true (le-leb n greatest s.few) (and_true (le-leb (2 * n + 2) (length scr) s.room) s.root))
 
-    refused_is : (x : Refusal) → first_of (string_checks S n rooms) ≡ some x → (v : Verdict) → said v ≡ some x → (r : Raised) → r ≡ refused_of v
-        → (exit : List ℕ) → exit ≡ replicate (length scr) 0 → Raises scr n a labels a exit r
-    refused_is x e v f r g exit z =
-        record {
-          outcome = ap₂ (λ p q. raising p a q) (refused_said r x (ap (λ (y : Raised). said y.verdict) g ∙ f)) z ∙ sym (if_some _ _ x e) ∙ sym within;
-          counts = none_counted (said r.verdict) r.counts (ap (λ (y : Raised). y.counts) g);
-        }
+    refused_is : (x : refusal.Refusal) → first_of (string_checks S n rooms) ≡ some (refusal_of x) → (exit : List ℕ) → Raised scr n a labels a exit (Err x)
+    refused_is x e exit = record { outcome = sym (if_some _ _ (refusal_of x) e) ∙ sym within; zeros = λ f. absurd (clash refl f); sized = tt }
 
     -- the plan
-    module _ (one : List ℕ) (q : one ≡ holding (n + 1) (length scr) S) (p : Plan) (two : List ℕ) (k : PlanIs p 4 1 (string_in one n) × (two ≡ one)) where
+    module _ (one : List ℕ) (q : one ≡ holding (n + 1) (length scr) S) where
       held : Holds one n × (string_in one n ≡ S) × (length one ≡ length scr)
       held = tidy_holds scr one n s q
 
-      plan_is : PlanIs p 4 1 S
-      plan_is = subst (PlanIs p 4 1) held.1 k.0
+      pub raise_refused : (r : refusal.Refusal) → PlanIs (Err r) 4 1 (string_in one n) → (exit : List ℕ) → Raised scr n a labels a exit (Err r)
+      unfolding string_checks
+      raise_refused r p exit = refused_is r (first_some _ _ (refusal_of r) (ap (full_from 4 1) (sym held.1) ∙ p)) exit
 
-      pub raise_length : length two ≡ length scr
-      raise_length = ap length k.1 ∙ held.2
+      module _ (p : Plan) (two : List ℕ) (k : PlanIs (Ok p) 4 1 (string_in one n) × (two ≡ one)) where
+        plan_is : Takes p 4 1 S
+        plan_is = subst (Takes p 4 1) held.1 k.0
 
-      module _ (v : Bool) (e : v ≡ is_made p.verdict) where
-        pub raise_refused : v ≡ false → (r : Raised) → r ≡ refused_of p.verdict → (exit : List ℕ) → exit ≡ replicate (length two) 0
-            → Raises scr n a labels a exit r
-        unfolding string_checks
-        raise_refused f r g exit z =
-            let x = not_made p.verdict (sym e ∙ f) in
-            refused_is x.0 (first_some _ _ x.0 (sym plan_is.refusal ∙ x.1)) p.verdict x.1 r g exit (z ∙ ap (λ i. replicate i 0) raise_length)
+        raise_length : length two ≡ length scr
+        raise_length = ap length k.1 ∙ held.2
 
-        module _ (f : v ≡ true) where
-          narrow : full_from 4 1 S ≡ none
-          narrow = sym plan_is.refusal ∙ made_none p.verdict (sym e ∙ f)
+        narrow : full_from 4 1 S ≡ none
+        narrow = plan_is.narrow
 
-          sizes : SizesAre p.sizes (tower 4 S)
-          sizes = plan_is.sizes narrow
+        sizes : SizesAre p.sizes (tower 4 S)
+        sizes = plan_is.sizes
 
-          -- by the sizes
-          same_checks : first_of (string_checks S n rooms) ≡ first_of (size_checks p.sizes n (length a.words) (length a.bytes) (length a.middle) (length a.large) labels)
-          unfolding string_checks size_checks
-          same_checks =
-              first_skip _ _ narrow
-              ∙ ap₂ (λ i j. first_of (check (leb i (length a.words)) 4 (0 ∷ []) ∷ check (leb j (length a.bytes)) 4 (1 ∷ []) ∷ check (leb (length (area_middle (tower 4 S))) (length a.middle)) 4 (2 ∷ []) ∷ check (leb (length (area_large (tower 4 S))) (length a.large)) 4 (3 ∷ []) ∷ check (leb n labels) 4 (4 ∷ []) ∷ []))
-              (sym sizes.words) (sym sizes.bytes)
-              ∙ ap₂ (λ i j. first_of (check (leb p.sizes.words (length a.words)) 4 (0 ∷ []) ∷ check (leb p.sizes.dict.bytes (length a.bytes)) 4 (1 ∷ []) ∷ check (leb i (length a.middle)) 4 (2 ∷ []) ∷ check (leb j (length a.large)) 4 (3 ∷ []) ∷ check (leb n labels) 4 (4 ∷ []) ∷ []))
-              (sym sizes.middle) (sym sizes.large)
+        -- by the sizes
+        same_checks : first_of (string_checks S n rooms) ≡ first_of (size_checks p.sizes n (length a.words) (length a.bytes) (length a.middle) (length a.large) labels)
+        unfolding string_checks size_checks
+        same_checks =
+            first_skip _ _ narrow
+            ∙ ap₂ (λ i j. first_of (check (leb i (length a.words)) 4 (0 ∷ []) ∷ check (leb j (length a.bytes)) 4 (1 ∷ []) ∷ check (leb (length (area_middle (tower 4 S))) (length a.middle)) 4 (2 ∷ []) ∷ check (leb (length (area_large (tower 4 S))) (length a.large)) 4 (3 ∷ []) ∷ check (leb n labels) 4 (4 ∷ []) ∷ []))
+            (sym sizes.words) (sym sizes.bytes)
+            ∙ ap₂ (λ i j. first_of (check (leb p.sizes.words (length a.words)) 4 (0 ∷ []) ∷ check (leb p.sizes.dict.bytes (length a.bytes)) 4 (1 ∷ []) ∷ check (leb i (length a.middle)) 4 (2 ∷ []) ∷ check (leb j (length a.large)) 4 (3 ∷ []) ∷ check (leb n labels) 4 (4 ∷ []) ∷ []))
+            (sym sizes.middle) (sym sizes.large)
 
-          module _ (x : Verdict) (c : said x ≡ first_of (size_checks p.sizes n (length a.words) (length a.bytes) (length a.middle) (length a.large) labels)) (u : Bool) (d : u ≡ is_made x) where
-            pub raise_room : u ≡ false → (r : Raised) → r ≡ refused_of x → (exit : List ℕ) → exit ≡ replicate (length two) 0 → Raises scr n a labels a exit r
-            raise_room g r h exit z =
-                let y = not_made x (sym d ∙ g) in
-                refused_is y.0 (same_checks ∙ sym c ∙ y.1) x y.1 r h exit (z ∙ ap (λ i. replicate i 0) raise_length)
+        pub raise_room : (r : refusal.Refusal) → some (refusal_of r) ≡ first_of (size_checks p.sizes n (length a.words) (length a.bytes) (length a.middle) (length a.large) labels)
+            → (exit : List ℕ) → Raised scr n a labels a exit (Err r)
+        raise_room r c exit = refused_is r (same_checks ∙ sym c) exit
 
-            module _ (g : u ≡ true) where
-              none_refuses : first_of (string_checks S n rooms) ≡ none
-              none_refuses = same_checks ∙ sym c ∙ made_none x (sym d ∙ g)
+        module _ (c : none ≡ first_of (size_checks p.sizes n (length a.words) (length a.bytes) (length a.middle) (length a.large) labels)) where
+          none_refuses : first_of (string_checks S n rooms) ≡ none
+          none_refuses = same_checks ∙ sym c
 
-              pub raise_fills : Fills two n a
-              unfolding string_checks
-              raise_fills =
-                  let t : string_in two n ≡ S = ap (λ y. string_in y n) k.1 ∙ held.1 in
-                  let r₀ = first_none _ _ none_refuses in
-                  let r₁ = first_none _ _ r₀.1 in
-                  let r₂ = first_none _ _ r₁.1 in
-                  let r₃ = first_none _ _ r₂.1 in
-                  let r₄ = first_none _ _ r₃.1 in
-                  record {
-                    holds = subst (λ y. Holds y n) (sym k.1) held.0;
-                    narrow = ap (full_from 4 1) t ∙ narrow;
-                    words = subst (λ y. length (area_words (tower 4 y)) ≤ length a.words) (sym t) (leb-true _ _ (check_none _ _ _ r₁.0));
-                    bytes = subst (λ y. length (area_bytes (tower 4 y)) ≤ length a.bytes) (sym t) (leb-true _ _ (check_none _ _ _ r₂.0));
-                    middle = subst (λ y. length (area_middle (tower 4 y)) ≤ length a.middle) (sym t) (leb-true _ _ (check_none _ _ _ r₃.0));
-                    large = subst (λ y. length (area_large (tower 4 y)) ≤ length a.large) (sym t) (leb-true _ _ (check_none _ _ _ r₄.0));
-                  }
+          pub raise_fills : Fills two n a
+          unfolding string_checks
+          raise_fills =
+              let t : string_in two n ≡ S = ap (λ y. string_in y n) k.1 ∙ held.1 in
+              let r₀ = first_none _ _ none_refuses in
+              let r₁ = first_none _ _ r₀.1 in
+              let r₂ = first_none _ _ r₁.1 in
+              let r₃ = first_none _ _ r₂.1 in
+              let r₄ = first_none _ _ r₃.1 in
+              record {
+                holds = subst (λ y. Holds y n) (sym k.1) held.0;
+                narrow = ap (full_from 4 1) t ∙ narrow;
+                words = subst (λ y. length (area_words (tower 4 y)) ≤ length a.words) (sym t) (leb-true _ _ (check_none _ _ _ r₁.0));
+                bytes = subst (λ y. length (area_bytes (tower 4 y)) ≤ length a.bytes) (sym t) (leb-true _ _ (check_none _ _ _ r₂.0));
+                middle = subst (λ y. length (area_middle (tower 4 y)) ≤ length a.middle) (sym t) (leb-true _ _ (check_none _ _ _ r₃.0));
+                large = subst (λ y. length (area_large (tower 4 y)) ≤ length a.large) (sym t) (leb-true _ _ (check_none _ _ _ r₄.0));
+              }
 
-              pub raise_made : (b : Held) (exit : List ℕ) → (b ≡ written (rooms_at a 0 0) (tower 4 (string_in two n))) × (exit ≡ replicate (length two) 0) → (r : Raised) → r ≡ made_of p.counts n
-                  → Sized r.counts → Raises scr n a labels b exit r
-              unfolding said_raised written tree_in
-              raise_made b exit h r i z =
-                  let t : string_in two n ≡ S = ap (λ y. string_in y n) k.1 ∙ held.1 in
-                  let answer : said_raised r ≡ is (record { nodes = n; counts = counted (tower 4 S) }) =
-                  ap said_raised i ∙ ap (λ y. is (record { nodes = n; counts = y })) (plan_is.counts narrow) in
-                  record {
-                    outcome =
-                        (λ j. raising (answer j) ((h.0 ∙ ap (λ y. written rooms (tower 4 y)) t) j) ((h.1 ∙ ap (λ y. replicate y 0) raise_length) j))
-                        ∙ sym (if_none _ _ none_refuses) ∙ sym within;
-                    counts = tree_counted (said r.verdict) r.counts (ap (λ (y : Raised). said y.verdict) i) z;
-                  }
+          pub raise_made : (b : Held) (exit : List ℕ) → (b ≡ written (rooms_at a 0 0) (tower 4 (string_in two n))) × (exit ≡ replicate (length two) 0)
+              → Sized (made_of p.counts n) → Raised scr n a labels b exit (Ok (made_of p.counts n))
+          unfolding written tree_in
+          raise_made b exit h z =
+              let t : string_in two n ≡ S = ap (λ y. string_in y n) k.1 ∙ held.1 in
+              record {
+                outcome =
+                    (λ j. raising (is (record { nodes = n; counts = plan_is.counts j })) ((h.0 ∙ ap (λ y. written rooms (tower 4 y)) t) j) (replicate (length scr) 0))
+                    ∙ sym (if_none _ _ none_refuses) ∙ sym within;
+                zeros = λ f. h.1 ∙ ap (λ y. replicate y 0) raise_length;
+                sized = z;
+              }
 
   -- no string of n nodes
-  broken_is : (leb n greatest && (leb (2 * n + 2) (length scr) && one_root S)) ≡ false → (r : Raised) → r ≡ refused_of verdict.Broken → (exit : List ℕ) → exit ≡ replicate (length scr) 0
-      → Raises scr n a labels a exit r
+  broken_is : (leb n greatest && (leb (2 * n + 2) (length scr) && one_root S)) ≡ false → (exit : List ℕ) → Raised scr n a labels a exit (Err Broken)
   unfolding raise_in
-  broken_is e r f exit z =
-      record {
-        outcome = ap₂ (λ p q. raising p a q) (refused_said r broken (ap (λ (y : Raised). said y.verdict) f)) z ∙ sym (if_false _ _ e);
-        counts = none_counted (said r.verdict) r.counts (ap (λ (y : Raised). y.counts) f);
-      }
+  broken_is e exit = record { outcome = sym (if_false _ _ e); zeros = λ f. absurd (clash refl f); sized = tt }
 
-  pub broken_many : greatest < n → (r : Raised) → r ≡ refused_of verdict.Broken → (exit : List ℕ) → exit ≡ replicate (length scr) 0 → Raises scr n a labels a exit r
+  pub broken_many : greatest < n → (exit : List ℕ) → Raised scr n a labels a exit (Err Broken)
   broken_many h = broken_is (ap (λ b. b && (leb (2 * n + 2) (length scr) && one_root S)) (lt-leb n greatest h))
 
   module _ (few : n ≤ greatest) where
-    pub broken_room : length scr < 2 * n + 2 → (r : Raised) → r ≡ refused_of verdict.Broken → (exit : List ℕ) → exit ≡ replicate (length scr) 0 → Raises scr n a labels a exit r
+    pub broken_room : length scr < 2 * n + 2 → (exit : List ℕ) → Raised scr n a labels a exit (Err Broken)
     broken_room h = broken_is (ap₂ (λ b c. b && (c && one_root S)) (le-leb n greatest few) (lt-leb (2 * n + 2) (length scr) h))
 
     module _ (room : 2 * n + 2 ≤ length scr) (t : Bool) (q : t ≡ one_root (bits_of (take (length scr - (n + 1)) (drop (n + 1) scr)) (2 * n + 2))) where
-      pub broken_root : t ≡ false → (r : Raised) → r ≡ refused_of verdict.Broken → (exit : List ℕ) → exit ≡ replicate (length scr) 0 → Raises scr n a labels a exit r
+      pub broken_root : t ≡ false → (exit : List ℕ) → Raised scr n a labels a exit (Err Broken)
       broken_root h = broken_is (ap₂ (λ b c. b && (c && one_root S)) (le-leb n greatest few) (le-leb (2 * n + 2) (length scr) room) ∙ sym (root_is scr n t q) ∙ h)
+
+  -- and scratch cleared
+  pub raises : (b : Held) (exit : List ℕ) (r : Result Counts refusal.Refusal) → Raised scr n a labels b exit r → (end : List ℕ) → end ≡ replicate (length scr) 0
+      → Raises scr n a labels b end r
+  raises b exit r x end z = record { outcome = ap (raising (said_tree r) b) z ∙ x.outcome; sized = x.sized }

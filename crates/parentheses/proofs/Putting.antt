@@ -5,7 +5,7 @@ use mathlib.Core.List.{List}
 use Prim.Native.Nat.{ℕ, ◌+◌, ◌-◌, ◌/◌, ◌≤◌}
 use native.Mathlib.Omega.{arith}
 use lib.ListN.{length, take, drop}
-use Rattle.meaning.specs.Answers.{Answer, is, nothing, refused}
+use Rattle.meaning.specs.Answers.{is}
 use Rattle.meaning.specs.Bits.{bits_of}
 use Rattle.meaning.specs.Pioneers.{flags}
 use Rattle.meaning.specs.Dictionary.{dict_of}
@@ -14,31 +14,21 @@ use Rattle.meaning.specs.Direct.{Entries, DictAfter, DictAccepted, entries_of, d
 use Rattle.meaning.proofs.If.{clash}
 use Rattle.meaning.proofs.Planned.{write_accepted}
 use Rattle.meaning.proofs.Pack.{length_pack}
-use Rattle.sparse_one_nnd.specs.Said.{entries_in, dict_at, said_built, after}
+use Rattle.sparse_one_nnd.specs.Said.{entries_in, dict_at, said_entries, after}
 use Rattle.sparse_one_nnd.specs.declared.SparseOneNnd.{SparseOneNnd}
-use Rattle.sparse_one_nnd.specs.declared.Built as sparse
-use Rattle.sparse_one_nnd.specs.declared.Built.TheVariants as built
 use Rattle.pioneers.specs.Scratch.{text_of, with_flags, marking, mark_in}
 use Rattle.pioneers.specs.Keep.{keeping, compact_in}
 use Rattle.pioneers.specs.declared.flags.Layout.{Layout}
 use Rattle.pioneers.proofs.Parts.{part_is}
 use Rattle.parentheses.specs.Writes.{Putting, PutIs}
-use Rattle.parentheses.specs.declared.plans.Family.TheVariants as family
+use Rattle.std.specs.Prelude.{Some, Result, Ok, Err}
+use Rattle.refusal.specs.declared.Refusal.{Refusal}
 use Rattle.parentheses.proofs.Holds.{level_fits, marks, marked_length, marked_part, marked_bits, compacts}
 
 -- an answer that is not refused is a dictionary
-said_made : (w : sparse.Built) (e : Entries) → said_built w ≡ is e → (d : SparseOneNnd) × (w ≡ built.Made d) × (entries_in d ≡ e)
-unfolding said_built
-said_made (built.Made d) e q = (d, refl, ap entries q)
-  where
-    entries : Answer Entries → Entries
-    entries (is x) = x
-    entries nothing = e
-    entries (refused r) = e
-said_made built.Broken e q = absurd (let z : ◌≡◌ {A = ℕ} 0 1 = cc in omega arith)
-said_made (built.Many n) e q = absurd (let z : ◌≡◌ {A = ℕ} 0 1 = cc in omega arith)
-said_made (built.Full b) e q = absurd (let z : ◌≡◌ {A = ℕ} 0 1 = cc in omega arith)
-said_made (built.Room a) e q = absurd (let z : ◌≡◌ {A = ℕ} 0 1 = cc in omega arith)
+said_made : (w : Result SparseOneNnd Refusal) (e : Entries) → said_entries w ≡ is e → (d : SparseOneNnd) × (w ≡ Ok d) × (entries_in d ≡ e)
+said_made (Ok d) e q = (d, refl, cc)
+said_made (Err r) e q = absurd cc
 
 module _ (scr : List ℕ) (lay : Layout) (o : SparseOneNnd) (b m g : List ℕ) (s : Putting scr lay o b m g) (r : Bool) (k : List ℕ) (q : marking r k ≡ mark_in scr lay) where
   abbrev l : List Bool
@@ -82,31 +72,24 @@ module _ (scr : List ℕ) (lay : Layout) (o : SparseOneNnd) (b m g : List ℕ) (
       write_accepted W lay.bits (entries_in o) (dict_at b m g) rooms
       ∙ ap (λ f. after (is (entries_of (dict_of f))) (dict_put (entries_in o) (dict_of f) (dict_at b m g))) bits_are
 
-  module _ (w : sparse.Built) (b' m' g' : List ℕ)
-      (e : after (said_built w) (dict_at b' m' g') ≡ dict_write (take (length k - lay.flags) (drop lay.flags k)) lay.bits (entries_in o) (dict_at b m g)) where
-    all : after (said_built w) (dict_at b' m' g') ≡ after (is (entries_of (dict_of (flags l)))) (dict_put (entries_in o) (dict_of (flags l)) (dict_at b m g))
+  module _ (w : Result SparseOneNnd Refusal) (b' m' g' : List ℕ)
+      (e : after (said_entries w) (dict_at b' m' g') ≡ dict_write (take (length k - lay.flags) (drop lay.flags k)) lay.bits (entries_in o) (dict_at b m g)) where
+    all : after (said_entries w) (dict_at b' m' g') ≡ after (is (entries_of (dict_of (flags l)))) (dict_put (entries_in o) (dict_of (flags l)) (dict_at b m g))
     all = e ∙ ap (λ (x : List ℕ). dict_write x lay.bits (entries_in o) (dict_at b m g)) (part_is k lay.flags) ∙ wrote
 
-    made : (d : SparseOneNnd) × (w ≡ built.Made d) × (entries_in d ≡ entries_of (dict_of (flags l)))
+    made : (d : SparseOneNnd) × (w ≡ Ok d) × (entries_in d ≡ entries_of (dict_of (flags l)))
     made = said_made w (entries_of (dict_of (flags l))) (ap (λ (x : DictAfter). x.reply) all)
 
-    pub put_refused : ((d : SparseOneNnd) → w ≡ built.Made d → ⊥) → {A : Type 0} → A
+    pub put_refused : ((d : SparseOneNnd) → w ≡ Ok d → ⊥) → {A : Type 0} → A
     put_refused n = absurd (n made.0 made.1)
 
-    pub put_made : (d : SparseOneNnd) → w ≡ built.Made d → (n : ℕ) (exit : List ℕ) → keeping n exit ≡ compact_in k lay
-        → PutIs (family.Made d n) scr lay o b m g exit b' m' g'
+    pub put_made : (d : SparseOneNnd) → w ≡ Ok d → (n : ℕ) (exit : List ℕ) → keeping n exit ≡ compact_in k lay
+        → PutIs (Some (record { dict = d; bits = n })) scr lay o b m g exit b' m' g'
     unfolding PutIs
     put_made d z n exit c =
         let a = compacts scr lay s.standing s.long k is_marked n exit c in
         let u : d ≡ made.0 = same d made.0 (sym z ∙ made.1) in
         (ap entries_in u ∙ made.2, a.0, a.1, ap (λ (x : DictAfter). x.areas) all)
       where
-        own : sparse.Built → SparseOneNnd → SparseOneNnd
-        own (built.Made x) y = x
-        own built.Broken y = y
-        own (built.Many n) y = y
-        own (built.Full x) y = y
-        own (built.Room x) y = y
-
-        same : (x y : SparseOneNnd) → built.Made x ≡ built.Made y → x ≡ y
-        same x y p = ap (λ t. own t y) p
+        same : (x y : SparseOneNnd) → ◌≡◌ {A = Result SparseOneNnd Refusal} (Ok x) (Ok y) → x ≡ y
+        same x y p = cc

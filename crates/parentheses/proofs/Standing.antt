@@ -18,15 +18,14 @@ use Rattle.pioneers.specs.Placed.{holding}
 use Rattle.pioneers.specs.Scratch.{text_of, fits_in}
 use Rattle.pioneers.specs.declared.flags.Layout.{Layout}
 use Rattle.pioneers.proofs.Parts.{lt_or_ge, zeros_at, part_is, part_new, part_zero}
-use Rattle.parentheses.specs.Copies.{Apart}
+use Rattle.std.specs.Prelude.{Result}
+use Rattle.std.specs.List.{copy_within}
+use Rattle.refusal.specs.declared.Refusal.{Refusal}
 use Rattle.parentheses.specs.Plans.{Standing, PlanIs}
 use Rattle.parentheses.specs.Raises.{lay_of, string_in, Stands, Holds}
 use Rattle.parentheses.specs.declared.plans.Plan.{Plan}
 use Rattle.parentheses.proofs.Holds.{length_holding, text_held}
-use Rattle.parentheses.proofs.Copied.{paste_else, paste_there}
-
-pub layout_is : (n k : ℕ) → k ≡ word_count (2 * n + 2) → ◌≡◌ {A = Layout} (record { text = n + 1; flags = n + 1 + k; bits = 2 * n + 2 }) (lay_of n)
-layout_is n k e = ap (λ (x : ℕ). record { text = n + 1; flags = n + 1 + x; bits = 2 * n + 2 }) e
+use Rattle.parentheses.proofs.Copied.{moved, paste_else, paste_there}
 
 -- the parts fit scratch of at least 2n + 2 words if there is a family, and of less
 pub layout_fits : (n k : ℕ) → n ≤ greatest → 32 ≤ n → n + 1 + 2 * word_count (2 * n + 2) ≤ k → fits_in (lay_of n) k ≡ true
@@ -157,8 +156,8 @@ module _ (scr : List ℕ) (n : ℕ) (h : Holds scr n) (big : 32 ≤ n) (lay : La
   pub spare_fits : lay.flags + w < 4294967296
   spare_fits = omega (arith, flags_at, h.stands.few, we)
 
-  pub copy_out : Apart lay.text sp w (length scr)
-  copy_out = record { source = omega (arith, room, flags_at, text_at); target = room; apart = inl (omega (arith, flags_at, text_at)) }
+  pub copy_out : (lay.text + w ≤ length scr) × (sp + w ≤ length scr)
+  copy_out = (omega (arith, room, flags_at, text_at), room)
 
   -- a word of the string that scratch holds
   word : (x : ℕ) → get_or scr x 0 ≡ get_or (holding (n + 1) (length scr) l) x 0
@@ -176,7 +175,10 @@ module _ (scr : List ℕ) (n : ℕ) (h : Holds scr n) (big : 32 ≤ n) (lay : La
   source_long : w ≤ length (drop lay.text scr)
   source_long = omega (arith, length-drop lay.text scr, room, flags_at, text_at)
 
-  module _ (one : List ℕ) (q : one ≡ paste scr sp (drop lay.text scr) w) where
+  module _ (one : List ℕ) (copied : one ≡ copy_within scr lay.text (lay.text + w) sp) where
+    q : one ≡ paste scr sp (drop lay.text scr) w
+    q = copied ∙ moved scr lay.text w sp
+
     one_length : length one ≡ length scr
     one_length = ap length q ∙ length-paste scr sp (drop lay.text scr) w room source_long
 
@@ -230,7 +232,7 @@ module _ (scr : List ℕ) (n : ℕ) (h : Holds scr n) (big : 32 ≤ n) (lay : La
       omega arith,
     )
 
-    pub front_plan : (r : Plan) → PlanIs r 4 1 (text_of (take (lay.flags + w) one) lay) → PlanIs r 4 1 l
+    pub front_plan : (r : Result Plan Refusal) → PlanIs r 4 1 (text_of (take (lay.flags + w) one) lay) → PlanIs r 4 1 l
     front_plan r p = subst (PlanIs r 4 1) front_text p
 
     module _ (z : List ℕ) (e : z ≡ replicate (length (take (lay.flags + w) one)) 0) where
@@ -249,15 +251,13 @@ module _ (scr : List ℕ) (n : ℕ) (h : Holds scr n) (big : 32 ≤ n) (lay : La
       two_high : (x : ℕ) → get_or (z ++ drop (lay.flags + w) one) (sp + x) 0 ≡ get_or one (sp + x) 0
       two_high x = ap (λ (y : ℕ). get_or (z ++ drop sp one) (y + x) 0) (sym z_length) ∙ get_or-append-add z (drop sp one) x 0 ∙ get_or-drop sp one x 0
 
-      pub copy_in : Apart (lay.flags + w) lay.text w (length (z ++ drop (lay.flags + w) one))
-      copy_in =
-          record {
-            source = omega (arith, two_length, room);
-            target = omega (arith, two_length, room, flags_at, text_at);
-            apart = inr (omega (arith, flags_at, text_at));
-          }
+      pub copy_in : (lay.flags + w + w ≤ length (z ++ drop (lay.flags + w) one)) × (lay.text + w ≤ length (z ++ drop (lay.flags + w) one))
+      copy_in = (omega (arith, two_length, room), omega (arith, two_length, room, flags_at, text_at))
 
-      module _ (three : List ℕ) (p : three ≡ paste (z ++ drop (lay.flags + w) one) lay.text (drop (lay.flags + w) (z ++ drop (lay.flags + w) one)) w) where
+      module _ (three : List ℕ) (again : three ≡ copy_within (z ++ drop (lay.flags + w) one) (lay.flags + w) (lay.flags + w + w) lay.text) where
+        p : three ≡ paste (z ++ drop (lay.flags + w) one) lay.text (drop (lay.flags + w) (z ++ drop (lay.flags + w) one)) w
+        p = again ∙ moved (z ++ drop (lay.flags + w) one) (lay.flags + w) w lay.text
+
         from_long : w ≤ length (drop (lay.flags + w) (z ++ drop (lay.flags + w) one))
         from_long = omega (arith, length-drop sp (z ++ drop sp one), two_length, room)
 

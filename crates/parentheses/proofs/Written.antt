@@ -1,5 +1,5 @@
 -- The ways out of `write_levels`: the string's words, then its dictionary, then the levels above it, with no gaps.
-use mathlib.Core.Path.{◌≡◌, refl, sym, ap, ap₂, ◌∙◌, subst}
+use mathlib.Core.Path.{◌≡◌, refl, sym, ap, ap₂, ◌∙◌}
 use mathlib.Core.Bool.{Bool, true, false}
 use mathlib.Core.Option.{Option, none, some}
 use mathlib.Core.List.{List, [], ◌∷◌, ◌++◌, append-nil}
@@ -22,7 +22,6 @@ use Rattle.meaning.proofs.Pack.{length_pack, pack_at}
 use Rattle.meaning.proofs.Words.{length_words}
 use Rattle.meaning.proofs.Runs.{sets_more}
 use Rattle.sparse_one_nnd.specs.Said.{entries_in, dict_at}
-use Rattle.sparse_one_nnd.specs.declared.SparseOneNnd.{SparseOneNnd}
 use Rattle.pioneers.specs.Scratch.{text_of}
 use Rattle.pioneers.specs.declared.flags.Layout.{Layout}
 use Rattle.pioneers.proofs.Parts.{text_length}
@@ -30,7 +29,7 @@ use Rattle.parentheses.specs.Plans.{added, Small, Standing}
 use Rattle.parentheses.specs.Writes.{held_at, put, Putting, PutIs, Writing, WrittenIs}
 use Rattle.parentheses.specs.declared.plans.Sizes.{Sizes}
 use Rattle.parentheses.specs.declared.plans.Family.{Family}
-use Rattle.parentheses.specs.declared.plans.Family.TheVariants as family
+use Rattle.std.specs.Prelude.{Some, None}
 use Rattle.parentheses.proofs.Holds.{drop_holding, standing_next}
 use Rattle.parentheses.proofs.Counting.{single, famous, tower_short, tower_long, even_middle, even_large}
 use Rattle.parentheses.proofs.Planning.{long_next}
@@ -89,8 +88,8 @@ module _ (scr : List ℕ) (lay : Layout) (left : ℕ) (at : Sizes) (w b m g : Li
       go false e (suc k) f =
           omega (arith, s.words, ap (λ t. length (area_words t)) (ap (λ n. tower n l) f ∙ tower_long k l e), is_first (famous l) (tower k (pioneer_string l)) refl)
 
-  pub write_room : (k : ℕ) → k ≡ word_count lay.bits → (lay.text + k ≤ length scr) × (at.words + k ≤ length w)
-  write_room k e = (omega (arith, st.room, st.inside), omega (arith, first_fits))
+  pub write_room : (lay.text + word_count lay.bits ≤ length scr) × (at.words + word_count lay.bits ≤ length w)
+  write_room = (omega (arith, st.room, st.inside), omega (arith, first_fits))
 
   -- what is copied
   words_are : take (word_count lay.bits) (drop lay.text scr) ≡ words_of l
@@ -101,10 +100,10 @@ module _ (scr : List ℕ) (lay : Layout) (left : ℕ) (at : Sizes) (w b m g : Li
       ∙ take_pack (word_count lay.bits) (length scr - lay.text) l (omega (arith, st.room))
       ∙ ap (λ n. pack (word_count n) l) (sym size)
 
-  module _ (k : ℕ) (o : k ≡ word_count lay.bits) (w' : List ℕ) (c : w' ≡ paste w at.words (drop lay.text scr) k) where
+  module _ (w' : List ℕ) (c : w' ≡ paste w at.words (drop lay.text scr) (word_count lay.bits)) where
     copied : w' ≡ sets w at.words (words_of l)
     copied =
-        c ∙ ap (paste w at.words (drop lay.text scr)) o ∙ paste_sets w at.words (drop lay.text scr) (word_count lay.bits) (words_of l) words_are (ap word_count (sym size) ∙ sym (length_words l))
+        c ∙ paste_sets w at.words (drop lay.text scr) (word_count lay.bits) (words_of l) words_are (ap word_count (sym size) ∙ sym (length_words l))
         (omega (arith, first_fits, length_words l, size))
 
     pub write_last : (lay.bits ≤ 64) ⊎ (left ≡ 0) → (exit : List ℕ) → exit ≡ replicate (length scr) 0
@@ -163,129 +162,117 @@ module _ (scr : List ℕ) (lay : Layout) (left : ℕ) (at : Sizes) (w b m g : Li
             large = omega (arith, s.large, large_are);
           }
 
-      module _ (f : Family) (exit b' m' g' : List ℕ) (p : PutIs f scr lay at.dict b m g exit b' m' g') where
-        is_made : (d : SparseOneNnd) × (k : ℕ) × (f ≡ family.Made d k)
+      pub write_refused : (exit b' m' g' : List ℕ) → PutIs None scr lay at.dict b m g exit b' m' g' → {A : Type 0} → A
+      unfolding PutIs
+      write_refused exit b' m' g' p = absurd p
+
+      module _ (f : Family) (exit b' m' g' : List ℕ) (put_is : PutIs (Some f) scr lay at.dict b m g exit b' m' g') where
+        abbrev next : Layout
+        next = record { text = lay.text; flags = lay.flags; bits = f.bits }
+
+        entries : entries_in f.dict ≡ entries_of (dict_of (flags l))
         unfolding PutIs
-        is_made = go f refl p
-          where
-            go : (x : Family) → f ≡ x → PutIs x scr lay at.dict b m g exit b' m' g' → (d : SparseOneNnd) × (k : ℕ) × (f ≡ family.Made d k)
-            go (family.Made d k) e q = (d, k, e)
-            go (family.Full x) e q = absurd q
-            go family.Broken e q = absurd q
+        entries = put_is.0
 
-        pub write_refused : ((d : SparseOneNnd) (k : ℕ) → f ≡ family.Made d k → ⊥) → {A : Type 0} → A
-        write_refused n = absurd (n is_made.0 is_made.1 is_made.2)
+        dict_bytes : f.dict.bytes ≡ length (dict_of (flags l)).bytes
+        unfolding entries_of
+        dict_bytes = ap (λ (x : Entries). x.bytes) entries
 
-        module _ (d : SparseOneNnd) (bits : ℕ) (e : f ≡ family.Made d bits) where
-          abbrev next : Layout
-          next = record { text = lay.text; flags = lay.flags; bits = bits }
+        dict_middle : 2 * f.dict.middles ≡ length (dict_of (flags l)).middle
+        unfolding entries_of
+        dict_middle = omega (arith, ap (λ (x : Entries). x.middle) entries, even_middle (flags l))
 
-          put_is : PutIs (family.Made d bits) scr lay at.dict b m g exit b' m' g'
-          put_is = subst (λ x. PutIs x scr lay at.dict b m g exit b' m' g') e p
+        dict_large : 2 * f.dict.larges ≡ length (dict_of (flags l)).large
+        unfolding entries_of
+        dict_large = omega (arith, ap (λ (x : Entries). x.large) entries, even_large (flags l))
 
-          entries : entries_in d ≡ entries_of (dict_of (flags l))
-          unfolding PutIs
-          entries = put_is.0
+        put_areas : dict_at b' m' g' ≡ dict_put (entries_in at.dict) (dict_of (flags l)) (dict_at b m g)
+        unfolding PutIs
+        put_areas = put_is.3
 
-          dict_bytes : d.bytes ≡ length (dict_of (flags l)).bytes
-          unfolding entries_of
-          dict_bytes = ap (λ (x : Entries). x.bytes) entries
+        bytes_put : b' ≡ sets b at.dict.bytes (dict_of (flags l)).bytes
+        unfolding dict_put
+        bytes_put = ap (λ (x : Dict). x.bytes) put_areas
 
-          dict_middle : 2 * d.middles ≡ length (dict_of (flags l)).middle
-          unfolding entries_of
-          dict_middle = omega (arith, ap (λ (x : Entries). x.middle) entries, even_middle (flags l))
+        middle_put : m' ≡ sets m (2 * at.dict.middles) (dict_of (flags l)).middle
+        unfolding dict_put
+        middle_put = ap (λ (x : Dict). x.middle) put_areas
 
-          dict_large : 2 * d.larges ≡ length (dict_of (flags l)).large
-          unfolding entries_of
-          dict_large = omega (arith, ap (λ (x : Entries). x.large) entries, even_large (flags l))
+        large_put : g' ≡ sets g (2 * at.dict.larges) (dict_of (flags l)).large
+        unfolding dict_put
+        large_put = ap (λ (x : Dict). x.large) put_areas
 
-          put_areas : dict_at b' m' g' ≡ dict_put (entries_in at.dict) (dict_of (flags l)) (dict_at b m g)
-          unfolding PutIs
-          put_areas = put_is.3
+        pub write_small : Small at f.dict
+        write_small =
+            record {
+              words = omega (arith, s.small.0);
+              bytes = (omega (arith, s.small.1), omega (arith, s.small.1, bytes_are, dict_bytes));
+              middles = (omega (arith, s.small.2), omega (arith, s.small.2, middle_are, dict_middle));
+              larges = (omega (arith, s.small.3), omega (arith, s.small.3, large_are, dict_large));
+            }
 
-          bytes_put : b' ≡ sets b at.dict.bytes (dict_of (flags l)).bytes
-          unfolding dict_put
-          bytes_put = ap (λ (x : Dict). x.bytes) put_areas
+        stands : Standing exit next × (text_of exit next ≡ pioneer_string l) × (length exit ≡ length scr)
+        unfolding PutIs
+        stands = standing_next scr lay st long exit f.bits put_is.1 put_is.2
 
-          middle_put : m' ≡ sets m (2 * at.dict.middles) (dict_of (flags l)).middle
-          unfolding dict_put
-          middle_put = ap (λ (x : Dict). x.middle) put_areas
+        module _ (past : Sizes) (q : past ≡ added at lay.bits f.dict) where
+          past_words : past.words ≡ at.words + word_count lay.bits
+          past_words = ap (λ (x : Sizes). x.words) q
 
-          large_put : g' ≡ sets g (2 * at.dict.larges) (dict_of (flags l)).large
-          unfolding dict_put
-          large_put = ap (λ (x : Dict). x.large) put_areas
+          past_bytes : past.dict.bytes ≡ at.dict.bytes + f.dict.bytes
+          past_bytes = ap (λ (x : Sizes). x.dict.bytes) q
 
-          pub write_small : Small at d
-          write_small =
+          past_middles : past.dict.middles ≡ at.dict.middles + f.dict.middles
+          past_middles = ap (λ (x : Sizes). x.dict.middles) q
+
+          past_larges : past.dict.larges ≡ at.dict.larges + f.dict.larges
+          past_larges = ap (λ (x : Sizes). x.dict.larges) q
+
+          same_rest : tower (left - 1) (text_of exit next) ≡ rest
+          same_rest = ap (tower (left - 1)) stands.1
+
+          pub write_next : Writing exit next (left - 1) past (held_at w' b' m' g')
+          write_next =
+              let kw = ap (λ t. length (area_words t)) same_rest in
+              let kb = ap (λ t. length (area_bytes t)) same_rest in
+              let km = ap (λ t. length (area_middle t)) same_rest in
+              let kg = ap (λ t. length (area_large t)) same_rest in
               record {
-                words = omega (arith, s.small.0);
-                bytes = (omega (arith, s.small.1), omega (arith, s.small.1, bytes_are, dict_bytes));
-                middles = (omega (arith, s.small.2), omega (arith, s.small.2, middle_are, dict_middle));
-                larges = (omega (arith, s.small.3), omega (arith, s.small.3, large_are, dict_large));
+                standing = stands.0;
+                few = omega (arith, s.few);
+                level = suc s.level;
+                narrow = ap (full_from (left - 1) (suc s.level)) stands.1 ∙ narrow.1;
+                words = omega (arith, s.words, rest_words, past_words, kw, ap length copied, length-sets w at.words (words_of l));
+                bytes = omega (arith, s.bytes, bytes_are, past_bytes, dict_bytes, kb, ap length bytes_put, length-sets b at.dict.bytes (dict_of (flags l)).bytes);
+                middle = omega (arith, s.middle, middle_are, past_middles, dict_middle, km, ap length middle_put, length-sets m (2 * at.dict.middles) (dict_of (flags l)).middle);
+                large = omega (arith, s.large, large_are, past_larges, dict_large, kg, ap length large_put, length-sets g (2 * at.dict.larges) (dict_of (flags l)).large);
+                small = (
+                  omega (arith, s.small.0, rest_words, past_words, kw),
+                  omega (arith, s.small.1, bytes_are, past_bytes, dict_bytes, kb),
+                  omega (arith, s.small.2, middle_are, past_middles, dict_middle, km),
+                  omega (arith, s.small.3, large_are, past_larges, dict_large, kg),
+                );
               }
 
-          stands : Standing exit next × (text_of exit next ≡ pioneer_string l) × (length exit ≡ length scr)
-          unfolding PutIs
-          stands = standing_next scr lay st long exit bits put_is.1 put_is.2
+          -- this level and the rest
+          after : (x : List ℕ) (i j : ℕ) (u v : List ℕ) (x' x'' : List ℕ) → x' ≡ sets x i u → j ≡ i + length u → x'' ≡ sets x' j v → x'' ≡ sets x i (u ++ v)
+          after x i j u v x' x'' a h c = c ∙ ap (λ (y : List ℕ). sets y j v) a ∙ sets_more x i j u v h
 
-          module _ (past : Sizes) (q : past ≡ added at lay.bits d) where
-            past_words : past.words ≡ at.words + word_count lay.bits
-            past_words = ap (λ (x : Sizes). x.words) q
-
-            past_bytes : past.dict.bytes ≡ at.dict.bytes + d.bytes
-            past_bytes = ap (λ (x : Sizes). x.dict.bytes) q
-
-            past_middles : past.dict.middles ≡ at.dict.middles + d.middles
-            past_middles = ap (λ (x : Sizes). x.dict.middles) q
-
-            past_larges : past.dict.larges ≡ at.dict.larges + d.larges
-            past_larges = ap (λ (x : Sizes). x.dict.larges) q
-
-            same_rest : tower (left - 1) (text_of exit next) ≡ rest
-            same_rest = ap (tower (left - 1)) stands.1
-
-            pub write_next : Writing exit next (left - 1) past (held_at w' b' m' g')
-            write_next =
-                let kw = ap (λ t. length (area_words t)) same_rest in
-                let kb = ap (λ t. length (area_bytes t)) same_rest in
-                let km = ap (λ t. length (area_middle t)) same_rest in
-                let kg = ap (λ t. length (area_large t)) same_rest in
-                record {
-                  standing = stands.0;
-                  few = omega (arith, s.few);
-                  level = suc s.level;
-                  narrow = ap (full_from (left - 1) (suc s.level)) stands.1 ∙ narrow.1;
-                  words = omega (arith, s.words, rest_words, past_words, kw, ap length copied, length-sets w at.words (words_of l));
-                  bytes = omega (arith, s.bytes, bytes_are, past_bytes, dict_bytes, kb, ap length bytes_put, length-sets b at.dict.bytes (dict_of (flags l)).bytes);
-                  middle = omega (arith, s.middle, middle_are, past_middles, dict_middle, km, ap length middle_put, length-sets m (2 * at.dict.middles) (dict_of (flags l)).middle);
-                  large = omega (arith, s.large, large_are, past_larges, dict_large, kg, ap length large_put, length-sets g (2 * at.dict.larges) (dict_of (flags l)).large);
-                  small = (
-                    omega (arith, s.small.0, rest_words, past_words, kw),
-                    omega (arith, s.small.1, bytes_are, past_bytes, dict_bytes, kb),
-                    omega (arith, s.small.2, middle_are, past_middles, dict_middle, km),
-                    omega (arith, s.small.3, large_are, past_larges, dict_large, kg),
-                  );
-                }
-
-            -- this level and the rest
-            after : (x : List ℕ) (i j : ℕ) (u v : List ℕ) (x' x'' : List ℕ) → x' ≡ sets x i u → j ≡ i + length u → x'' ≡ sets x' j v → x'' ≡ sets x i (u ++ v)
-            after x i j u v x' x'' a h c = c ∙ ap (λ (y : List ℕ). sets y j v) a ∙ sets_more x i j u v h
-
-            pub write_more : (w'' b'' m'' g'' end : List ℕ) → WrittenIs exit next (left - 1) past (held_at w' b' m' g') (held_at w'' b'' m'' g'') end
-                → WrittenIs scr lay left at (held_at w b m g) (held_at w'' b'' m'' g'') end
-            unfolding area_words area_bytes area_middle area_large joined
-            write_more w'' b'' m'' g'' end r =
-                let a : held_at w'' b'' m'' g'' ≡ put past rest (held_at w' b' m' g') = r.areas ∙ ap (λ t. put past t (held_at w' b' m' g')) same_rest in
-                record {
-                  areas =
-                      held_ext (held_at w'' b'' m'' g'') (put at (tower left l) (held_at w b m g))
-                      (after w at.words past.words (words_of l) (area_words rest) w' w'' copied (omega (arith, past_words, length_words l, size)) (ap (λ (x : Held). x.words) a)
-                      ∙ ap (λ t. sets w at.words (area_words t)) (sym tower_is))
-                      (after b at.dict.bytes past.dict.bytes (dict_of (flags l)).bytes (area_bytes rest) b' b'' bytes_put (omega (arith, past_bytes, dict_bytes)) (ap (λ (x : Held). x.bytes) a)
-                      ∙ ap (λ t. sets b at.dict.bytes (area_bytes t)) (sym tower_is))
-                      (after m (2 * at.dict.middles) (2 * past.dict.middles) (dict_of (flags l)).middle (area_middle rest) m' m'' middle_put (omega (arith, past_middles, dict_middle)) (ap (λ (x : Held). x.middle) a)
-                      ∙ ap (λ t. sets m (2 * at.dict.middles) (area_middle t)) (sym tower_is))
-                      (after g (2 * at.dict.larges) (2 * past.dict.larges) (dict_of (flags l)).large (area_large rest) g' g'' large_put (omega (arith, past_larges, dict_large)) (ap (λ (x : Held). x.large) a)
-                      ∙ ap (λ t. sets g (2 * at.dict.larges) (area_large t)) (sym tower_is));
-                  zeros = r.zeros ∙ ap (λ k. replicate k 0) stands.2;
-                }
+          pub write_more : (w'' b'' m'' g'' end : List ℕ) → WrittenIs exit next (left - 1) past (held_at w' b' m' g') (held_at w'' b'' m'' g'') end
+              → WrittenIs scr lay left at (held_at w b m g) (held_at w'' b'' m'' g'') end
+          unfolding area_words area_bytes area_middle area_large joined
+          write_more w'' b'' m'' g'' end r =
+              let a : held_at w'' b'' m'' g'' ≡ put past rest (held_at w' b' m' g') = r.areas ∙ ap (λ t. put past t (held_at w' b' m' g')) same_rest in
+              record {
+                areas =
+                    held_ext (held_at w'' b'' m'' g'') (put at (tower left l) (held_at w b m g))
+                    (after w at.words past.words (words_of l) (area_words rest) w' w'' copied (omega (arith, past_words, length_words l, size)) (ap (λ (x : Held). x.words) a)
+                    ∙ ap (λ t. sets w at.words (area_words t)) (sym tower_is))
+                    (after b at.dict.bytes past.dict.bytes (dict_of (flags l)).bytes (area_bytes rest) b' b'' bytes_put (omega (arith, past_bytes, dict_bytes)) (ap (λ (x : Held). x.bytes) a)
+                    ∙ ap (λ t. sets b at.dict.bytes (area_bytes t)) (sym tower_is))
+                    (after m (2 * at.dict.middles) (2 * past.dict.middles) (dict_of (flags l)).middle (area_middle rest) m' m'' middle_put (omega (arith, past_middles, dict_middle)) (ap (λ (x : Held). x.middle) a)
+                    ∙ ap (λ t. sets m (2 * at.dict.middles) (area_middle t)) (sym tower_is))
+                    (after g (2 * at.dict.larges) (2 * past.dict.larges) (dict_of (flags l)).large (area_large rest) g' g'' large_put (omega (arith, past_larges, dict_large)) (ap (λ (x : Held). x.large) a)
+                    ∙ ap (λ t. sets g (2 * at.dict.larges) (area_large t)) (sym tower_is));
+                zeros = r.zeros ∙ ap (λ k. replicate k 0) stands.2;
+              }

@@ -1,4 +1,4 @@
 pub mod Plans
-pub mod Copies
+pub mod Rooms
 pub mod Writes
 pub mod Raises

@@ -1,13 +1,13 @@
 -- What the plan of a string's levels says, and what it starts from.
-use Rattle.std.specs.Prelude.{◌≡◌, Bool, true, false, List, [], ◌∷◌, ℕ, ◌+◌, ◌*◌, ◌-◌, ◌/◌, ◌≤◌, ◌<◌, length, get_or}
-use Rattle.std.proofs.Math.Option.{Option, none, some}
-use Rattle.meaning.specs.Answers.{Refusal}
+use Rattle.std.specs.Prelude.{Result, Ok, Err}
+use Rattle.std.specs.Prelude.{◌≡◌, Bool, true, List, [], ◌∷◌, ℕ, ◌+◌, ◌*◌, ◌-◌, ◌/◌, ◌≤◌, ◌<◌, length, get_or}
+use Rattle.std.proofs.Math.Option.{none, some}
 use Rattle.meaning.specs.Bits.{word_count}
 use Rattle.meaning.specs.Pioneers.{flags, pioneer_string}
 use Rattle.meaning.specs.Dictionary.{dict_of}
 use Rattle.meaning.specs.Family.{Level, tower}
 use Rattle.meaning.specs.Areas.{area_words, area_bytes, area_middle, area_large, counted}
-use Rattle.meaning.specs.Refusals.{refuse, full_block, full_from}
+use Rattle.meaning.specs.Refusals.{full_block, full_from}
 use Rattle.meaning.specs.Growth.{one_root}
 use Rattle.meaning.specs.Direct.{entries_of, most_bits}
 use Rattle.record.specs.Record.{tree_in}
@@ -17,27 +17,12 @@ use Rattle.sparse_one_nnd.specs.declared.SparseOneNnd.{SparseOneNnd}
 use Rattle.pioneers.specs.Placed.{holding}
 use Rattle.pioneers.specs.Scratch.{text_of, fits_in}
 use Rattle.pioneers.specs.declared.flags.Layout.{Layout}
-use Rattle.parentheses.specs.declared.levels.Verdict.{Verdict}
-use Rattle.parentheses.specs.declared.levels.Verdict.TheVariants as verdict
+use Rattle.refusal.specs.Said.{refusal_of}
+use Rattle.refusal.specs.declared.Refusal.{Refusal}
+use Rattle.refusal.specs.declared.Refusal.TheVariants.{Full}
 use Rattle.parentheses.specs.declared.plans.Sizes.{Sizes}
 use Rattle.parentheses.specs.declared.plans.Plan.{Plan}
 use Rattle.parentheses.specs.declared.plans.Family.{Family}
-use Rattle.parentheses.specs.declared.plans.Family.TheVariants as family
-
--- 01's number and values for each answer
-abbrev pub said : Verdict → Option Refusal
-said verdict.Made = none
-said (verdict.Full v b) = refuse 5 (v ∷ b ∷ [])
-said verdict.Deep = refuse 6 (0 ∷ [])
-said (verdict.Room a) = refuse 4 (a ∷ [])
-said verdict.Broken = refuse 9 (0 ∷ [])
-
-abbrev pub is_made : Verdict → Bool
-is_made verdict.Made = true
-is_made (verdict.Full v b) = false
-is_made verdict.Deep = false
-is_made (verdict.Room a) = false
-is_made verdict.Broken = false
 
 -- one string alone; a string and its dictionary before the others
 abbrev pub alone_of : ℕ → Counts
@@ -65,16 +50,9 @@ added s m d =
       dict = record { bytes = s.dict.bytes + d.bytes; middles = s.dict.middles + d.middles; larges = s.dict.larges + d.larges };
     }
 
-abbrev pub plan_of : Verdict → Counts → Sizes → Plan
-plan_of v c s = record { verdict = v; counts = c; sizes = s }
-
--- a level before the rest, if that is made
-abbrev pub above_if : Bool → ℕ → SparseOneNnd → Plan → Plan
-above_if true m d t = plan_of verdict.Made (shifted m d t.counts) (added t.sizes m d)
-above_if false m d t = t
-
+-- a level before the rest
 abbrev pub above_of : ℕ → SparseOneNnd → Plan → Plan
-above_of m d t = above_if (is_made t.verdict) m d t
+above_of m d t = record { counts = shifted m d t.counts; sizes = added t.sizes m d }
 
 -- no sum of sizes overflows
 pub record Small (s : Sizes) (d : SparseOneNnd) : Type 0 where
@@ -90,11 +68,16 @@ pub record SizesAre (s : Sizes) (t : List Level) : Type 0 where
   pub middle : 2 * s.dict.middles ≡ length (area_middle t)
   pub large : 2 * s.dict.larges ≡ length (area_large t)
 
+-- what the levels take, where none is FULL or DEEP
+pub record Takes (p : Plan) (left level : ℕ) (l : List Bool) : Type 0 where
+  pub narrow : full_from left level l ≡ none
+  pub counts : (tree_in p.counts).counts ≡ counted (tower left l)
+  pub sizes : SizesAre p.sizes (tower left l)
+
 -- FULL at the lowest level and block, DEEP; else the counts and sizes of the levels
-pub record PlanIs (r : Plan) (left level : ℕ) (l : List Bool) : Type 0 where
-  pub refusal : said r.verdict ≡ full_from left level l
-  pub counts : full_from left level l ≡ none → (tree_in r.counts).counts ≡ counted (tower left l)
-  pub sizes : full_from left level l ≡ none → SizesAre r.sizes (tower left l)
+abbrev pub PlanIs : Result Plan Refusal → ℕ → ℕ → List Bool → Type 0
+PlanIs (Ok p) left level l = Takes p left level l
+PlanIs (Err r) left level l = full_from left level l ≡ some (refusal_of r)
 
 -- what a level starts from: scratch holds a string balanced under one root and nothing else, and has room for its flags if it has a family
 pub record Standing (scr : List ℕ) (lay : Layout) : Type 0 where
@@ -105,12 +88,12 @@ pub record Standing (scr : List ℕ) (lay : Layout) : Type 0 where
   pub room : lay.bits ≤ 64 * (length scr - lay.text)
   pub fits : 64 < lay.bits → fits_in lay (length scr) ≡ true
 
--- "a sparse dictionary of its flags, and the string of its flagged bits in order"
-unfoldable pub FamilyIs : Family → List ℕ → Layout → List ℕ → Type 0
-FamilyIs (family.Made d m) scr lay exit =
+-- "a sparse dictionary of its flags, and the string of its flagged bits in order"; or FULL at the level
+unfoldable pub FamilyIs : Result Family Refusal → ℕ → List ℕ → Layout → List ℕ → Type 0
+FamilyIs (Ok f) level scr lay exit =
     (full_block (lay.bits / 256 + 1) 0 (flags (text_of scr lay)) ≡ none)
-    × (entries_in d ≡ entries_of (dict_of (flags (text_of scr lay))))
-    × (m ≡ length (pioneer_string (text_of scr lay)))
+    × (entries_in f.dict ≡ entries_of (dict_of (flags (text_of scr lay))))
+    × (f.bits ≡ length (pioneer_string (text_of scr lay)))
     × (exit ≡ holding lay.text (length scr) (pioneer_string (text_of scr lay)))
-FamilyIs (family.Full b) scr lay exit = full_block (lay.bits / 256 + 1) 0 (flags (text_of scr lay)) ≡ some b
-FamilyIs family.Broken scr lay exit = ⊥
+FamilyIs (Err r) level scr lay exit =
+    (b : ℕ) × (full_block (lay.bits / 256 + 1) 0 (flags (text_of scr lay)) ≡ some b) × (r ≡ Full level b)

@@ -1,4 +1,5 @@
 -- The levels of a string of n nodes that scratch holds, in areas 0 to 3: what is answered, and what is left.
+use Rattle.std.specs.Prelude.{Result, is_err}
 use Rattle.std.specs.Prelude.{◌≡◌, Bool, true, false, ◌&&◌, List, [], ◌∷◌, ℕ, ◌+◌, ◌*◌, ◌≤◌, leb, length, drop, replicate}
 use Rattle.std.proofs.Math.Option.{Option, none, some}
 use Rattle.meaning.specs.Answers.{Refusal, Answer, is, refused, broken}
@@ -9,15 +10,11 @@ use Rattle.meaning.specs.Areas.{Rooms, Held, area_words, area_bytes, area_middle
 use Rattle.meaning.specs.Refusals.{check, full_from, first_of}
 use Rattle.meaning.specs.Build.{Tree}
 use Rattle.meaning.specs.Growth.{one_root}
-use Rattle.record.specs.Record.{tree_in, no_counts, Counted}
+use Rattle.record.specs.Record.{said_tree, SizedIn}
 use Rattle.record.specs.declared.Counts.{Counts}
+use Rattle.refusal.specs.declared.Refusal as refusal
 use Rattle.pioneers.specs.Placed.{holding}
 use Rattle.pioneers.specs.declared.flags.Layout.{Layout}
-use Rattle.parentheses.specs.Plans.{said}
-use Rattle.parentheses.specs.declared.plans.Sizes.{Sizes}
-use Rattle.parentheses.specs.declared.levels.Raised.{Raised}
-use Rattle.parentheses.specs.declared.levels.Verdict.{Verdict}
-use Rattle.parentheses.specs.declared.levels.Verdict.TheVariants as verdict
 
 -- the parts of scratch for n nodes
 abbrev pub lay_of : ℕ → Layout
@@ -51,32 +48,6 @@ string_checks l n rooms =
     ∷ check (leb n rooms.labels) 4 (4 ∷ [])
     ∷ []
 
--- ROOM by sizes
-unfoldable pub size_checks : Sizes → ℕ → ℕ → ℕ → ℕ → ℕ → ℕ → List (Option Refusal)
-size_checks s n words bytes middle large labels =
-    check (leb s.words words) 4 (0 ∷ [])
-    ∷ check (leb s.dict.bytes bytes) 4 (1 ∷ [])
-    ∷ check (leb (2 * s.dict.middles) middle) 4 (2 ∷ [])
-    ∷ check (leb (2 * s.dict.larges) large) 4 (3 ∷ [])
-    ∷ check (leb n labels) 4 (4 ∷ [])
-    ∷ []
-
--- the answer with 01's numbers
-unfoldable pub said_raised : Raised → Answer Tree
-said_raised r = elim (said r.verdict) [ none ↦ is (tree_in r.counts) | some x ↦ refused x ]
-
--- the counts of n nodes
-abbrev pub made_of : Counts → ℕ → Raised
-made_of c n =
-    record {
-      verdict = verdict.Made;
-      counts = record { nodes = n; bits = c.bits; bytes = c.bytes; middles = c.middles; larges = c.larges };
-    }
-
--- a refusal, with counts of nothing
-abbrev pub refused_of : Verdict → Raised
-refused_of v = record { verdict = v; counts = no_counts }
-
 -- with the areas and scratch as they are left
 pub record Raising : Type 0 where
   pub reply : Answer Tree
@@ -102,9 +73,15 @@ raise_in scr n a labels =
     ]
 
 -- THE CONTRACT of the level builder: of a string of n nodes in scratch and areas a, into areas b and scratch `exit`, with answer r
-pub record Raises (scr : List ℕ) (n : ℕ) (a : Held) (labels : ℕ) (b : Held) (exit : List ℕ) (r : Raised) : Type 0 where
-  pub outcome : raising (said_raised r) b exit ≡ raise_in scr n a labels
-  pub counts : Counted (said r.verdict) r.counts
+pub record Raises (scr : List ℕ) (n : ℕ) (a : Held) (labels : ℕ) (b : Held) (exit : List ℕ) (r : Result Counts refusal.Refusal) : Type 0 where
+  pub outcome : raising (said_tree r) b exit ≡ raise_in scr n a labels
+  pub sized : SizedIn r
+
+-- before scratch is cleared where it refuses
+pub record Raised (scr : List ℕ) (n : ℕ) (a : Held) (labels : ℕ) (b : Held) (exit : List ℕ) (r : Result Counts refusal.Refusal) : Type 0 where
+  pub outcome : raising (said_tree r) b (replicate (length scr) 0) ≡ raise_in scr n a labels
+  pub zeros : is_err r ≡ false → exit ≡ replicate (length scr) 0
+  pub sized : SizedIn r
 
 -- a string of n nodes, whatever stands beside it
 pub record Stands (scr : List ℕ) (n : ℕ) : Type 0 where

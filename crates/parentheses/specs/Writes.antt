@@ -1,4 +1,5 @@
 -- What the writing of a string's levels leaves, and what it starts from.
+use Rattle.std.specs.Prelude.{Option, None, Some}
 use Rattle.std.specs.Prelude.{◌≡◌, List, ℕ, ◌+◌, ◌*◌, ◌/◌, ◌≤◌, ◌<◌, length, replicate}
 use Rattle.std.proofs.Math.Option.{none}
 use Rattle.std.proofs.lemmas.List.Edits.{sets}
@@ -14,13 +15,23 @@ use Rattle.pioneers.specs.Placed.{holding}
 use Rattle.pioneers.specs.Scratch.{text_of}
 use Rattle.pioneers.specs.declared.flags.Layout.{Layout}
 use Rattle.parentheses.specs.Plans.{Standing}
+use Rattle.parentheses.specs.declared.levels.Areas.{Areas}
 use Rattle.parentheses.specs.declared.plans.Sizes.{Sizes}
 use Rattle.parentheses.specs.declared.plans.Family.{Family}
-use Rattle.parentheses.specs.declared.plans.Family.TheVariants as family
 
 -- areas 0 to 3
 abbrev pub held_at : List ℕ → List ℕ → List ℕ → List ℕ → Held
 held_at w b m g = record { words = w; bytes = b; middle = m; large = g }
+
+abbrev pub held_in : Areas → Held
+held_in a = held_at a.words.now a.bytes.now a.middles.now a.larges.now
+
+-- the same areas are lent
+pub record Same (a b : Areas) : Type 0 where
+  pub words : b.words.ghost_name ≡ a.words.ghost_name
+  pub bytes : b.bytes.ghost_name ≡ a.bytes.ghost_name
+  pub middles : b.middles.ghost_name ≡ a.middles.ghost_name
+  pub larges : b.larges.ghost_name ≡ a.larges.ghost_name
 
 -- the areas with some levels put past `at`
 abbrev pub put : Sizes → List Level → Held → Held
@@ -42,14 +53,13 @@ pub record Putting (scr : List ℕ) (lay : Layout) (o : SparseOneNnd) (b m g : L
   pub large : 2 * o.larges + length (dict_of (flags (text_of scr lay))).large ≤ length g
 
 -- the dictionary's counts, the pioneer string in the string's place, and the dictionary in areas 1 to 3
-unfoldable pub PutIs : Family → List ℕ → Layout → SparseOneNnd → List ℕ → List ℕ → List ℕ → List ℕ → List ℕ → List ℕ → List ℕ → Type 0
-PutIs (family.Made d n) scr lay o b m g exit b' m' g' =
-    (entries_in d ≡ entries_of (dict_of (flags (text_of scr lay))))
-    × (n ≡ length (pioneer_string (text_of scr lay)))
+unfoldable pub PutIs : Option Family → List ℕ → Layout → SparseOneNnd → List ℕ → List ℕ → List ℕ → List ℕ → List ℕ → List ℕ → List ℕ → Type 0
+PutIs (Some f) scr lay o b m g exit b' m' g' =
+    (entries_in f.dict ≡ entries_of (dict_of (flags (text_of scr lay))))
+    × (f.bits ≡ length (pioneer_string (text_of scr lay)))
     × (exit ≡ holding lay.text (length scr) (pioneer_string (text_of scr lay)))
     × (dict_at b' m' g' ≡ dict_put (entries_in o) (dict_of (flags (text_of scr lay))) (dict_at b m g))
-PutIs (family.Full x) scr lay o b m g exit b' m' g' = ⊥
-PutIs family.Broken scr lay o b m g exit b' m' g' = ⊥
+PutIs None scr lay o b m g exit b' m' g' = ⊥
 
 -- the levels are neither FULL nor DEEP, and fit
 pub record Writing (scr : List ℕ) (lay : Layout) (left : ℕ) (at : Sizes) (a : Held) : Type 0 where

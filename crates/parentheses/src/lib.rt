@@ -1,7 +1,6 @@
 // Parentheses: the level builder, which plans and writes a string, its pioneer strings and their dictionaries.
 #![tactic(auto)]
 
-mod copies;
 pub mod levels;
 mod plans;
 mod writes;

@@ -1,14 +1,27 @@
 // The writing of a string's levels into areas 0 to 3, of which each has room.
-ghost use Rattle.parentheses.specs.Writes.{held_at, Putting, PutIs, Writing, WrittenIs};
+ghost use Rattle.std.specs.Prelude.{◌≡◌, ◌+◌, ◌≤◌, length, drop};
+ghost use Rattle.std.proofs.Math.Seq.{paste};
+ghost use Rattle.meaning.specs.Bits.{word_count};
+ghost use Rattle.parentheses.specs.Writes.{held_in, Same, Putting, PutIs, Writing, WrittenIs};
 
-use crate::copies::copy_words;
-use crate::plans::{Family, Sizes, add};
+use crate::levels::Areas;
+use crate::plans::{Family, Sizes};
 use pioneers::compact::compact;
 use pioneers::flags::{Layout, mark};
-use sparse_one_nnd::{Built, SparseOneNnd};
-use words::{word_count, zero64};
+use sparse_one_nnd::SparseOneNnd;
+use words::word_count;
 
-// The dictionary of a string's flags, past `from`; then the pioneer string stands in the string's place.
+// The string's words, past `at` of area 0.
+fn write_string(scr: &[u64], lay: Layout, words: &mut [u64], at: usize)
+    requires { (lay.text + word_count lay.bits ≤ length scr.now) × (at + word_count lay.bits ≤ length words.old) }
+    ensures { words.new ≡ paste words.old at (drop lay.text scr.now) (word_count lay.bits) }
+{
+    let count = word_count(lay.bits);
+    words[at..at + count].copy_from_slice(&scr[lay.text..lay.text + count]);
+}
+
+// The dictionary of a string's flags, past `from`; then the pioneer string stands in the string's place. It takes areas 1 to 3 alone, as
+// `SparseOneNnd::write` does.
 fn write_family(
     scr: &mut [u64],
     lay: Layout,
@@ -16,20 +29,19 @@ fn write_family(
     bytes: &mut [u8],
     middles: &mut [u16],
     larges: &mut [u64],
-) -> Family
+) -> Option<Family>
     requires { Putting scr.old lay from bytes.old middles.old larges.old }
     ensures { PutIs result scr.old lay from bytes.old middles.old larges.old scr.new bytes.new middles.new larges.new }
 {
-    if mark(scr, lay) {
-        let flags = lay.flags;
-        let b = SparseOneNnd::write(&scr[flags..], lay.bits, from, bytes, middles, larges);
-        let Built::Made(d) = b else {
-            return Family::Broken;
-        };
-        let bits = compact(scr, lay);
-        return Family::Made(d, bits);
+    if !mark(scr, lay) {
+        return None;
     }
-    Family::Broken
+    let Ok(dict) = SparseOneNnd::write(&scr[lay.flags..], lay.bits, from, bytes, middles, larges)
+    else {
+        return None;
+    };
+    let bits = compact(scr, lay);
+    Some(Family { dict, bits })
 }
 
 // The string, and then its pioneer levels, at most `left` of them, past `at`. Scratch is zero after it.
@@ -38,37 +50,26 @@ pub(crate) fn write_levels(
     lay: Layout,
     left: usize,
     at: Sizes,
-    words: &mut [u64],
-    bytes: &mut [u8],
-    middles: &mut [u16],
-    larges: &mut [u64],
+    areas: &mut Areas<'_>,
 )
-    requires { Writing scr.old lay left at (held_at words.old bytes.old middles.old larges.old) }
-    ensures { WrittenIs scr.old lay left at (held_at words.old bytes.old middles.old larges.old) (held_at words.new bytes.new middles.new larges.new) scr.new }
+    requires { Writing scr.old lay left at (held_in areas.old) }
+    ensures same { Same areas.old areas.new }
+    ensures written { WrittenIs scr.old lay left at (held_in areas.old) (held_in areas.new) scr.new }
 {
-    let m = lay.bits;
-    let text = lay.text;
-    let w = at.words;
-    copy_words(scr, text, words, w, word_count(m));
-    if m <= 64 {
-        zero64(scr);
+    write_string(scr, lay, areas.words, at.words);
+    if lay.bits <= 64 || left == 0 {
+        scr.fill(0);
         return;
     }
-    if left == 0 {
-        zero64(scr);
-        return;
-    }
-    let from = at.dict;
-    let f = write_family(scr, lay, from, bytes, middles, larges);
-    let Family::Made(d, bits) = f else {
-        zero64(scr);
+    let Some(family) = write_family(scr, lay, at.dict, areas.bytes, areas.middles, areas.larges)
+    else {
+        scr.fill(0);
         return;
     };
     let next = Layout {
-        text,
-        flags: lay.flags,
-        bits,
+        bits: family.bits,
+        ..lay
     };
-    let past = add(at, m, d);
-    write_levels(scr, next, left - 1, past, words, bytes, middles, larges);
+    let past = at.add(lay.bits, family.dict);
+    write_levels(scr, next, left - 1, past, areas);
 }

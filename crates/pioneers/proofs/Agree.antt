@@ -1,38 +1,28 @@
 -- Any two outcomes that a contract allows agree: the answer, and scratch.
 use mathlib.Core.Path.{◌≡◌, refl, sym, ap, ◌∙◌}
-use mathlib.Core.Bool.{Bool, true, false}
-use mathlib.Core.Option.{Option, none, some}
+use mathlib.Core.Bool.{Bool}
 use mathlib.Core.List.{List}
 use Prim.Native.Nat.{ℕ}
-use lib.Dec.{eqb}
-use lib.ListN.{get_or}
-use Rattle.meaning.specs.Answers.{Refusal}
-use Rattle.pioneers.specs.Placed.{said, Placing, placing}
+use Rattle.std.specs.Prelude.{Result, Ok, Err}
+use Rattle.refusal.specs.Said.{refused_of}
+use Rattle.refusal.specs.declared.Refusal.{Refusal}
+use Rattle.refusal.proofs.Agree.{same_refusal}
+use Rattle.pioneers.specs.Placed.{Placing, placing}
 use Rattle.pioneers.specs.Scratch.{Marking, marking}
 use Rattle.pioneers.specs.Keep.{Keeping, keeping}
-use Rattle.pioneers.specs.declared.string.Placed.{Placed}
-use Rattle.pioneers.specs.declared.string.Placed.TheVariants as placed
 
-placed_from : Option Refusal → Placed
-placed_from none = placed.Made
-placed_from (some r) =
-    elim (eqb r.number 2) [
-      | true ↦ placed.Many (get_or r.carries 0 0)
-      | false ↦ elim (eqb r.number 3) [ true ↦ placed.Level (get_or r.carries 0 0) | false ↦ placed.Room ]
-    ]
-
-placed_back : (r : Placed) → placed_from (said r) ≡ r
-unfolding placed_from
-placed_back placed.Made = refl
-placed_back (placed.Many n) = refl
-placed_back (placed.Level k) = refl
-placed_back placed.Room = refl
+-- yes, or a refusal: what it refuses tells it
+pub same_refused : (r q : Result (Unit {0}) Refusal) → refused_of r ≡ refused_of q → r ≡ q
+same_refused (Ok a) (Ok b) e = refl
+same_refused (Ok a) (Err q) e = absurd cc
+same_refused (Err r) (Ok b) e = absurd cc
+same_refused (Err r) (Err q) e = ap Err (same_refusal r q cc)
 
 module _ (s t : List ℕ) where
-  pub places_agree : (x : Placing) (r q : Placed) → placing (said r) s ≡ x → placing (said q) t ≡ x → (r ≡ q) × (s ≡ t)
+  pub places_agree : (x : Placing) (r q : Result (Unit {0}) Refusal) → placing (refused_of r) s ≡ x → placing (refused_of q) t ≡ x → (r ≡ q) × (s ≡ t)
   places_agree x r q e f =
-      let g : placing (said r) s ≡ placing (said q) t = e ∙ sym f in
-      (sym (placed_back r) ∙ ap (λ (y : Placing). placed_from y.refusal) g ∙ placed_back q, ap (λ (y : Placing). y.scr) g)
+      let g : placing (refused_of r) s ≡ placing (refused_of q) t = e ∙ sym f in
+      (same_refused r q (ap (λ (y : Placing). y.refusal) g), ap (λ (y : Placing). y.scr) g)
 
   pub marks_agree : (x : Marking) (r q : Bool) → marking r s ≡ x → marking q t ≡ x → (r ≡ q) × (s ≡ t)
   marks_agree x r q e f = (ap (λ (y : Marking). y.done) (e ∙ sym f), ap (λ (y : Marking). y.scr) (e ∙ sym f))

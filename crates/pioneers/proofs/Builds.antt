@@ -5,11 +5,11 @@ use mathlib.Core.List.{List}
 use Prim.Native.Nat.{ℕ, ◌+◌, ◌-◌, ◌≤◌, ◌<◌}
 use native.Mathlib.Omega.{arith}
 use lib.Dec.{T, ltb, ltb→lt, nltb→le}
+use Rattle.std.specs.Prelude.{None, Some, is_some, unwrap_or}
 use lib.ListN.{length}
 use borrow.Author.Tests.{lt-ltb, le-ltb}
 use Rattle.meaning.specs.Bits.{stored, pack}
 use Rattle.meaning.specs.String.{string}
-use Rattle.meaning.proofs.Stored.{length_stored}
 use Rattle.pioneers.specs.Node.{node_of, level_of, once_if, once_of, wrote_if, wrote_of, Allows}
 use Rattle.pioneers.specs.Placed.{Opened}
 use Rattle.pioneers.specs.declared.string.Builder.{Builder}
@@ -22,8 +22,8 @@ module _ (vs : List ℕ) (s : Builder) (h : s.nodes < length vs) where
   there : ltb s.nodes (length vs) ≡ true
   there = lt-ltb s.nodes (length vs) h
 
-  pub once_more : (b : Builder) (v : ℕ) → v ≡ level_of vs s → b ≡ node_of s v → record { builder = b; more = true } ≡ once_of vs s
-  once_more b v e f = ap (λ (z : Builder). record { builder = z; more = true }) (f ∙ ap (node_of s) e) ∙ ap (λ (t : Bool). once_if t vs s) (sym there)
+  pub once_more : (b : Builder) (v : ℕ) → v ≡ level_of vs s → b ≡ node_of s v → Some b ≡ once_of vs s
+  once_more b v e f = ap (λ (z : Builder). Some z) (f ∙ ap (node_of s) e) ∙ ap (λ (t : Bool). once_if t vs s) (sym there)
 
   pub wrote_more : (ws zs : List ℕ) (v : ℕ) → v ≡ level_of vs s → zs ≡ stored ws (s.bits + (s.prev - v)) true → zs ≡ wrote_of vs ws s
   wrote_more ws zs v e f = f ∙ ap (λ (m : ℕ). stored ws (s.bits + (s.prev - m)) true) e ∙ ap (λ (t : Bool). wrote_if t vs ws s) (sym there)
@@ -32,7 +32,7 @@ module _ (vs : List ℕ) (s : Builder) (h : length vs ≤ s.nodes) where
   gone : ltb s.nodes (length vs) ≡ false
   gone = le-ltb s.nodes (length vs) h
 
-  pub once_end : record { builder = s; more = false } ≡ once_of vs s
+  pub once_end : None ≡ once_of vs s
   once_end = ap (λ (t : Bool). once_if t vs s) (sym gone)
 
   pub wrote_end : (ws : List ℕ) → ws ≡ wrote_of vs ws s
@@ -58,24 +58,20 @@ module _ (vs : List ℕ) (k : ℕ) (s : Builder) (ws : List ℕ) (p : Stands vs 
       }
 
   -- after a node
-  on : (t : Bool) → (T t → s.nodes < length vs) → T (once_if t vs s).more → Stands vs k (once_if t vs s).builder (wrote_if t vs ws s) × (length vs - (once_if t vs s).builder.nodes < length vs - s.nodes)
+  on : (t : Bool) → (T t → s.nodes < length vs) → T (is_some (once_if t vs s)) → Stands vs k (unwrap_or (once_if t vs s) s) (wrote_if t vs ws s) × (length vs - (unwrap_or (once_if t vs s) s).nodes < length vs - s.nodes)
   on true h y = (
-    put_next vs ws k s.nodes s.bits s.prev (level_of vs s) p (h tt) refl (wrote_if true vs ws s) (once_if true vs s).builder.bits (once_if true vs s).builder.prev (refl, refl) refl,
+    put_next vs ws k s.nodes s.bits s.prev (level_of vs s) p (h tt) refl (wrote_if true vs ws s) (node_of s (level_of vs s)).bits (node_of s (level_of vs s)).prev (refl, refl) refl,
     omega (arith, h tt),
   )
   on false h y = absurd y
 
-  pub stands_on : T (once_of vs s).more → Stands vs k (once_of vs s).builder (wrote_of vs ws s) × (length vs - (once_of vs s).builder.nodes < length vs - s.nodes)
+  pub stands_on : T (is_some (once_of vs s)) → Stands vs k (unwrap_or (once_of vs s) s) (wrote_of vs ws s) × (length vs - (unwrap_or (once_of vs s) s).nodes < length vs - s.nodes)
   stands_on = on (ltb s.nodes (length vs)) (ltb→lt s.nodes (length vs))
 
   -- at the end of the list
-  at_end : (t : Bool) → (T (not t) → length vs ≤ s.nodes) → T (not (once_if t vs s).more) → wrote_if t vs ws s ≡ pack k (string vs)
+  at_end : (t : Bool) → (T (not t) → length vs ≤ s.nodes) → T (not (is_some (once_if t vs s))) → wrote_if t vs ws s ≡ pack k (string vs)
   at_end true h y = absurd y
   at_end false h y = put_done vs k ws s.nodes s.bits s.prev p (h tt) k refl
 
-  pub stands_end : T (not (once_of vs s).more) → wrote_of vs ws s ≡ pack k (string vs)
+  pub stands_end : T (not (is_some (once_of vs s))) → wrote_of vs ws s ≡ pack k (string vs)
   stands_end = at_end (ltb s.nodes (length vs)) (nltb→le s.nodes (length vs))
-
--- the root's open leaves the words as many as they were
-pub of_as_many : (vs before words zs : List ℕ) → words ≡ stored before 0 true → zs ≡ pack (length words) (string vs) → zs ≡ pack (length before) (string vs)
-of_as_many vs before words zs e f = f ∙ ap (λ (k : ℕ). pack k (string vs)) (ap length e ∙ length_stored before 0 true)

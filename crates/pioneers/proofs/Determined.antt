@@ -1,18 +1,12 @@
 -- Any two outcomes that the contract of a public function allows agree: the answer, and scratch.
-use mathlib.Core.Path.{◌≡◌, refl, sym, ap, ◌∙◌}
-use mathlib.Core.Bool.{true, false}
-use mathlib.Core.Option.{Option, none, some}
+use mathlib.Core.Path.{refl, sym, ap, ◌∙◌}
 use mathlib.Core.List.{List}
 use Prim.Native.Nat.{ℕ}
-use lib.Dec.{eqb}
-use lib.ListN.{get_or}
-use Rattle.meaning.specs.Answers.{Refusal}
 use Rattle.meaning.specs.Determined.{Determined}
-use Rattle.pioneers.specs.Placed.{said, Placing}
+use Rattle.pioneers.specs.Placed.{Placing}
 use Rattle.pioneers.specs.Scratch.{Marking}
 use Rattle.pioneers.specs.Keep.{Keeping}
-use Rattle.pioneers.specs.declared.string.Placed.{Placed}
-use Rattle.pioneers.specs.declared.string.Placed.TheVariants as placed
+use Rattle.pioneers.proofs.Agree.{same_refused}
 use Rattle.pioneers.proofs.string.check_levels.Reads as check_levels
 use Rattle.pioneers.proofs.string.check_levels.Kinds as check_levels_kinds
 use Rattle.pioneers.proofs.string.place.Reads as place
@@ -28,28 +22,13 @@ use Rattle.pioneers.proofs.flags.fits.Kinds as fits_kinds
 use Rattle.pioneers.proofs.flags.mark.Reads as mark
 use Rattle.pioneers.proofs.flags.mark.Kinds as mark_kinds
 
-placed_from : Option Refusal → Placed
-placed_from none = placed.Made
-placed_from (some r) =
-    elim (eqb r.number 2) [
-      | true ↦ placed.Many (get_or r.carries 0 0)
-      | false ↦ elim (eqb r.number 3) [ true ↦ placed.Level (get_or r.carries 0 0) | false ↦ placed.Room ]
-    ]
-
-placed_back : (r : Placed) → placed_from (said r) ≡ r
-unfolding placed_from
-placed_back placed.Made = refl
-placed_back (placed.Many n) = refl
-placed_back (placed.Level k) = refl
-placed_back placed.Room = refl
-
 pub place_determined : Determined _ place_kinds.ps place_kinds.r place.Asked place.Learnt (List ℕ) (λ κs e. e.1.0.now)
 place_determined =
     record {
       asks_nothing = λ κs a. tt;
       agree = λ κs a z z' e e' p q.
           let g = p ∙ sym q in
-          (sym (placed_back z) ∙ ap (λ (x : Placing). placed_from x.refusal) g ∙ placed_back z', ap (λ (x : Placing). x.scr) g);
+          (same_refused z z' (ap (λ (x : Placing). x.refusal) g), ap (λ (x : Placing). x.scr) g);
     }
 
 pub mark_determined : Determined _ mark_kinds.ps mark_kinds.r mark.Asked mark.Learnt (List ℕ) (λ κs e. e.0.now)

@@ -6,28 +6,17 @@ use Prim.Native.Nat.{ℕ, suc, ◌+◌, ◌-◌, ◌*◌, ◌^◌, ◌≤◌, �
 use native.Mathlib.Decide.{ℕ_discrete}
 use native.Mathlib.Numerals.{add-one}
 use native.Mathlib.Omega.{arith}
-use lib.ListN.{length, get_or, take, drop, replicate, length-append, length-drop, length-take, get_or-append}
+use lib.ListN.{length, get_or, take, drop, length-append, length-drop, length-take, get_or-append}
 use lib.Seq.{ext_get_or, take-suc, take-length, length-take-le, get_or-append_seam, get_or-drop}
 use Rattle.meaning.specs.Bits.{bit_at, bits_of, stored, pack}
 use Rattle.meaning.specs.Pioneers.{keep}
-use Rattle.meaning.proofs.If.{if_true, if_false}
 use Rattle.meaning.proofs.Tab.{Below}
 use Rattle.meaning.proofs.Stored.{bit_at_drop, length_stored, stored_below, stored_here, stored_other, length_bits, bits_at}
 use Rattle.pioneers.specs.Pick.{pick}
 use Rattle.pioneers.specs.Scratch.{text_of, flags_of, fits_in}
-use Rattle.pioneers.specs.Keep.{Keeping, keeping, keep_turn, trimmed, compact_in}
+use Rattle.pioneers.specs.Keep.{Keeping, keeping, keep_turn, trimmed}
 use Rattle.pioneers.specs.declared.flags.Layout.{Layout}
 use Rattle.pioneers.proofs.Parts.{drop_stored, take_stored_le, part_is, part_new, Fits, fits_are, text_length, text_bit, flags_length, flags_bit}
-
-module _ (scr : List ℕ) (lay : Layout) (i at : ℕ) (f : Bool) (q : f ≡ bit_at scr (64 * lay.flags + i)) where
-  pub keep_flagged : f ≡ true → (b : Bool) → b ≡ bit_at scr (64 * lay.text + i) → (exit : List ℕ) → exit ≡ stored scr (64 * lay.text + at) b
-      → keeping (at + 1) exit ≡ keep_turn scr lay i at
-  unfolding keep_turn
-  keep_flagged e b g exit h = rw (← q, e, ← g, h)
-
-  pub keep_other : f ≡ false → keeping at scr ≡ keep_turn scr lay i at
-  unfolding keep_turn
-  keep_other e = rw (← q, e)
 
 -- the kept bits, one place more
 keep_append : (a b c d : List Bool) → length a ≡ length c → keep (a ++ b) (c ++ d) ≡ keep a c ++ keep b d
@@ -199,16 +188,3 @@ module _ (scr₀ : List ℕ) (lay : Layout) (p : fits_in lay (length scr₀) ≡
           ∙ ap₂ (λ (x y : List ℕ). x ++ y) v.front
           (q ∙ ap (λ (x : List ℕ). pack (length x) (bits_of x at)) (part_is scr lay.text)
           ∙ ap₂ pack (length-drop lay.text scr ∙ ap (λ (n : ℕ). n - lay.text) v.len) bits_are))
-
--- the ways out of `compact`
-module _ (scr : List ℕ) (lay : Layout) (r : Bool) (q : r ≡ fits_in lay (length scr)) where
-  pub compact_fit : r ≡ true → fits_in lay (length scr) ≡ true
-  compact_fit e = sym q ∙ e
-
-  pub compact_made : r ≡ true → (n : ℕ) (exit : List ℕ) → keeping n exit ≡ trimmed scr lay → keeping n exit ≡ compact_in scr lay
-  unfolding compact_in
-  compact_made e n exit g = g ∙ sym (if_true _ _ (sym q ∙ e))
-
-  pub compact_unfit : r ≡ false → (exit : List ℕ) → exit ≡ replicate (length scr) 0 → keeping 0 exit ≡ compact_in scr lay
-  unfolding compact_in
-  compact_unfit e exit z = ap (keeping 0) z ∙ sym (if_false _ _ (sym q ∙ e))

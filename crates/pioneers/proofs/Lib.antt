@@ -1,12 +1,10 @@
 pub mod Parts
-pub mod Fit
 pub mod Ruled
 pub mod Nodes
 pub mod Builds
 pub mod Places
 pub mod Rooted
 pub mod Runs
-pub mod Turns
 pub mod Pass
 pub mod Marks
 pub mod Marked

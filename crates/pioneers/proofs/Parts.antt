@@ -65,6 +65,10 @@ part_zero d s k e =
     let b : length (take (length d - k) (drop k d)) ≡ length d - k = ap length (part_is d k) ∙ length-drop k d in
     part_new d s k ∙ ap (λ (x : List ℕ). take k d ++ x) (e ∙ ap (λ (n : ℕ). replicate n 0) b)
 
+-- the first k words made zero
+pub front_zero : (d s : List ℕ) (k : ℕ) → k ≤ length d → s ≡ replicate (length (take k d)) 0 → s ++ drop k d ≡ replicate k 0 ++ drop k d
+front_zero d s k h e = ap (λ (x : List ℕ). x ++ drop k d) (e ∙ ap (λ (n : ℕ). replicate n 0) (length-take-le k d h))
+
 -- what is left of two parts, the first and then the second
 pub drop_split : (a b : ℕ) (l : List ℕ) → a ≤ b → drop a l ≡ slice a b l ++ drop b l
 drop_split a b l h = go (lt_or_ge (length l) b)

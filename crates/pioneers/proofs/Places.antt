@@ -1,5 +1,5 @@
 -- The ways out of `place`, and the string in its part of scratch.
-use mathlib.Core.Path.{◌≡◌, refl, sym, ap, ap₂, ◌∙◌}
+use mathlib.Core.Path.{◌≡◌, sym, ap, ap₂, ◌∙◌, subst}
 use mathlib.Core.Bool.{Bool, true}
 use mathlib.Core.Option.{Option, none, some}
 use mathlib.Core.List.{List, [], ◌∷◌, ◌++◌}
@@ -15,21 +15,13 @@ use Rattle.meaning.specs.List.{offending, greatest}
 use Rattle.meaning.specs.Refusals.{check, level_rule, first_of}
 use Rattle.meaning.proofs.If.{if_none, if_some}
 use Rattle.meaning.proofs.Runs.{take_zeros, drop_zeros}
-use Rattle.pioneers.specs.Placed.{rule_of, said, placing, holding, list_checks, place_in, Ready}
-use Rattle.pioneers.specs.declared.string.Placed.TheVariants as placed
-use Rattle.pioneers.specs.declared.string.Rule.{Rule}
-use Rattle.pioneers.specs.declared.string.Rule.TheVariants as rule
+use Rattle.pioneers.specs.Placed.{rule_of, placing, holding, list_checks, place_in, Ready}
+use Rattle.std.specs.Prelude.{Ok, Err}
+use Rattle.refusal.specs.Said.{refusal_of}
+use Rattle.refusal.specs.declared.Refusal as refusal
+use Rattle.refusal.specs.declared.Refusal.TheVariants.{Many, Room}
 use Rattle.pioneers.proofs.Parts.{part_is, part_new}
-use Rattle.pioneers.proofs.Ruled.{rule_of_lem}
-
--- the rule's answer, and what it was made of
-kept_none : (o : Option ℕ) → rule.Kept ≡ rule_of o → o ≡ none
-kept_none none e = refl
-kept_none (some k) e = absurd (let z : ◌≡◌ {A = ℕ} 0 1 = cc in omega arith)
-
-broken_some : (i : ℕ) (o : Option ℕ) → rule.Broken i ≡ rule_of o → o ≡ some i
-broken_some i none e = absurd (let z : ◌≡◌ {A = ℕ} 0 1 = cc in omega arith)
-broken_some i (some k) e = let z : k ≡ i = cc in ap some z
+use Rattle.pioneers.proofs.Ruled.{kept_none, broken_some, rule_of_lem}
 
 module _ (vs : List ℕ) (k : ℕ) where
   after : Bool → Option ℕ → Bool → Option Refusal
@@ -39,27 +31,27 @@ module _ (vs : List ℕ) (k : ℕ) where
   unfolding place_in
   refused r e exit z = ap (placing (some r)) z ∙ sym (if_some _ _ r e)
 
-  pub place_many : greatest < length vs → (exit : List ℕ) → exit ≡ replicate k 0 → placing (said (placed.Many (length vs))) exit ≡ place_in vs k
+  pub place_many : greatest < length vs → (exit : List ℕ) → exit ≡ replicate k 0 → placing (some (refusal_of (Many (length vs)))) exit ≡ place_in vs k
   unfolding list_checks first_of check after
   place_many h exit z = refused _ (ap (λ b. after b (offending vs) (leb (2 * length vs + 2) k)) (lt-leb (length vs) greatest h)) exit z
 
-  module _ (h : length vs ≤ greatest) (r : Rule) (q : r ≡ rule_of (offending vs)) where
-    pub place_level : (i : ℕ) → r ≡ rule.Broken i → (exit : List ℕ) → exit ≡ replicate k 0 → placing (said (placed.Level i)) exit ≡ place_in vs k
+  module _ (h : length vs ≤ greatest) where
+    pub place_level : (r : refusal.Refusal) → Err r ≡ rule_of (offending vs) → (exit : List ℕ) → exit ≡ replicate k 0 → placing (some (refusal_of r)) exit ≡ place_in vs k
     unfolding list_checks first_of check level_rule after
-    place_level i e exit z =
-        refused _
-        (ap₂ (λ b o. after b o (leb (2 * length vs + 2) k)) (le-leb (length vs) greatest h) (broken_some i (offending vs) (sym e ∙ q)))
-        exit z
+    place_level r e exit z =
+        let b = broken_some r (offending vs) e in
+        subst (λ (r : refusal.Refusal). placing (some (refusal_of r)) exit ≡ place_in vs k) (sym b.2)
+        (refused _ (ap₂ (λ b o. after b o (leb (2 * length vs + 2) k)) (le-leb (length vs) greatest h) b.1) exit z)
 
-    module _ (e : r ≡ rule.Kept) where
+    module _ (e : Ok tt ≡ rule_of (offending vs)) where
       no_level : offending vs ≡ none
-      no_level = kept_none (offending vs) (sym e ∙ q)
+      no_level = kept_none (offending vs) e
 
       module _ (z : List ℕ) (w : z ≡ replicate k 0) where
         size : length z ≡ k
         size = ap length w ∙ length-replicate k 0
 
-        pub place_room : length z < 2 * length vs + 2 → placing (said placed.Room) z ≡ place_in vs k
+        pub place_room : length z < 2 * length vs + 2 → placing (some (refusal_of (Room 5))) z ≡ place_in vs k
         unfolding list_checks first_of check level_rule after
         place_room l =
             refused _
@@ -80,7 +72,7 @@ module _ (vs : List ℕ) (k : ℕ) where
           pub place_ready : Ready vs (take (length z - (length vs + 1)) (drop (length vs + 1) z))
           place_ready =
               record {
-                rule = rule_of_lem vs (sym e ∙ q);
+                rule = rule_of_lem vs e;
                 few = h;
                 room = omega (arith, part_length, size);
                 zeros =
@@ -89,7 +81,7 @@ module _ (vs : List ℕ) (k : ℕ) where
               }
 
           pub place_made : (part : List ℕ) → part ≡ pack (length (take (length z - (length vs + 1)) (drop (length vs + 1) z))) (string vs)
-              → placing (said placed.Made) (take (length vs + 1) z ++ (part ++ drop (length z - (length vs + 1)) (drop (length vs + 1) z))) ≡ place_in vs k
+              → placing none (take (length vs + 1) z ++ (part ++ drop (length z - (length vs + 1)) (drop (length vs + 1) z))) ≡ place_in vs k
           unfolding place_in holding
           place_made part g =
               ap (placing none)

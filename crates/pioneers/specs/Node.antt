@@ -1,8 +1,7 @@
 -- One node through a builder: the builder after it, and the words.
-use Rattle.std.specs.Prelude.{Bool, true, false, List, ℕ, ◌+◌, ◌-◌, ◌≤◌, ◌<◌, ltb, length, get_or}
+use Rattle.std.specs.Prelude.{Option, None, Some, Bool, true, false, List, ℕ, ◌+◌, ◌-◌, ◌≤◌, ◌<◌, ltb, length, get_or}
 use Rattle.meaning.specs.Bits.{stored}
 use Rattle.pioneers.specs.declared.string.Builder.{Builder}
-use Rattle.pioneers.specs.declared.string.Once.{Once}
 
 -- a node of level v: it "closes every open node of level v or more, then opens"
 abbrev pub node_of : Builder → ℕ → Builder
@@ -12,12 +11,12 @@ node_of s v = record { nodes = s.nodes + 1; bits = s.bits + (s.prev - v) + 1; pr
 abbrev pub level_of : List ℕ → Builder → ℕ
 level_of vs s = get_or vs s.nodes 0
 
--- the next node, if the list has one (true)
-abbrev pub once_if : Bool → List ℕ → Builder → Once
-once_if true vs s = record { builder = node_of s (level_of vs s); more = true }
-once_if false vs s = record { builder = s; more = false }
+-- the builder after the next node, if the list has one (true)
+abbrev pub once_if : Bool → List ℕ → Builder → Option Builder
+once_if true vs s = Some (node_of s (level_of vs s))
+once_if false vs s = None
 
-abbrev pub once_of : List ℕ → Builder → Once
+abbrev pub once_of : List ℕ → Builder → Option Builder
 once_of vs s = once_if (ltb s.nodes (length vs)) vs s
 
 abbrev pub wrote_if : Bool → List ℕ → List ℕ → Builder → List ℕ

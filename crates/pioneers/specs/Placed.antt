@@ -1,28 +1,20 @@
 -- The string of a level list in scratch, and what is refused before it stands there.
 use Rattle.std.specs.Prelude.{◌≡◌, Bool, true, List, [], ◌∷◌, ◌++◌, ℕ, ◌+◌, ◌*◌, ◌-◌, ◌≤◌, leb, length, replicate}
+use Rattle.std.specs.Prelude.{Result, Ok, Err}
 use Rattle.std.proofs.Math.Option.{Option, none, some}
 use Rattle.meaning.specs.Answers.{Refusal}
 use Rattle.meaning.specs.Bits.{pack, stored}
 use Rattle.meaning.specs.String.{string}
 use Rattle.meaning.specs.List as list
 use Rattle.meaning.specs.List.{offending, greatest}
-use Rattle.meaning.specs.Refusals.{refuse, check, level_rule, first_of}
-use Rattle.pioneers.specs.declared.string.Placed.{Placed}
-use Rattle.pioneers.specs.declared.string.Placed.TheVariants as placed
-use Rattle.pioneers.specs.declared.string.Rule.{Rule}
-use Rattle.pioneers.specs.declared.string.Rule.TheVariants as rule
+use Rattle.meaning.specs.Refusals.{check, level_rule, first_of}
+use Rattle.refusal.specs.declared.Refusal as refusal
+use Rattle.refusal.specs.declared.Refusal.TheVariants.{Level}
 
 -- the list rule's answer
-abbrev pub rule_of : Option ℕ → Rule
-rule_of none = rule.Kept
-rule_of (some k) = rule.Broken k
-
--- 01's number and values for each answer
-abbrev pub said : Placed → Option Refusal
-said placed.Made = none
-said (placed.Many n) = refuse 2 (n ∷ [])
-said (placed.Level k) = refuse 3 (k ∷ [])
-said placed.Room = refuse 4 (5 ∷ [])
+abbrev pub rule_of : Option ℕ → Result (Unit {0}) refusal.Refusal
+rule_of none = Ok tt
+rule_of (some k) = Err (Level k)
 
 -- an answer with scratch as it is left
 pub record Placing : Type 0 where

@@ -1,62 +1,71 @@
 // The flags of a string. Scratch holds the stack of open places, then from word `text` on the string, then from word `flags` on its flags.
-ghost use Rattle.std.specs.Prelude.{◌≡◌, true, false, ◌++◌, ◌+◌, ◌-◌, ◌*◌, ◌<◌, ◌≤◌, length, take, drop, replicate};
+ghost use Rattle.std.specs.Prelude.{◌≡◌, false, ◌+◌, ◌*◌, ◌<◌, length};
 ghost use Rattle.meaning.specs.Bits.{bit_at};
 ghost use Rattle.meaning.specs.Pioneers.{flags};
 ghost use Rattle.pioneers.specs.Scratch.{fits_in, text_of, with_flags, marking, mark_in, Bare};
 ghost use Rattle.pioneers.specs.Turn.{scan_of, apart_of, marked, settled, turned, open_turn, pair_turn, turn_of, Turns, Near};
 
 use crate::root::one_root;
-use words::{bit_at, enough, store, zero64};
+use words::{bit_at, enough, store};
 
-// Where the parts start, and the bits of the string.
-#[derive(Clone, Copy)]
+// Where the parts start, and the bits of the string. It goes beside scratch, not into one struct with it: one that holds a `&mut` is no plainer.
+#[derive(Clone, Copy, PartialEq, Eq, Debug)]
 pub struct Layout {
     pub text: usize,
     pub flags: usize,
     pub bits: usize,
 }
 
-// The stack's height, and the last far pair that closed: no pair closes at 0, which says that there is none.
-#[derive(Clone, Copy)]
+// The stack's height, and the last far pair that closed: no pair closes at 0, which says that there is none,
+// so no Option: `scan_of` and `apart_of` read it so. The stack itself is in scratch, since memory is fixed.
+#[derive(Clone, Copy, PartialEq, Eq, Debug)]
 pub struct Scan {
     pub depth: usize,
     pub fore: usize,
     pub aft: usize,
 }
 
-// A far pair is pending, and (p, i) has not both blocks in common with it.
-fn apart(s: Scan, p: usize, i: usize) -> bool
-    ensures { result ≡ apart_of s p i }
-{
-    if s.aft == 0 {
-        return false;
+impl Scan {
+    // A far pair is pending, and (p, i) has not both blocks in common with it.
+    #[tactic(auto, unfolding(crate::specs::Turn::apart_of))]
+    fn apart(self, p: usize, i: usize) -> bool
+        ensures { result ≡ apart_of self p i }
+    {
+        self.aft != 0 && (self.fore / 64 != p / 64 || self.aft / 64 != i / 64)
     }
-    if s.fore / 64 == p / 64 {
-        return s.aft / 64 != i / 64;
-    }
-    true
-}
 
-// The pending pair is flagged at both ends.
-fn mark_pair(scr: &mut [u64], at: usize, s: Scan)
-    requires { Near at s }
-    ensures { scr.new ≡ marked scr.old at s }
-{
-    store(scr, at + s.fore, true);
-    store(scr, at + s.aft, true);
+    // The pending pair is flagged at both ends.
+    #[tactic(auto, unfolding(crate::specs::Turn::marked))]
+    fn mark_pair(self, scr: &mut [u64], at: usize)
+        requires { Near at self }
+        ensures { scr.new ≡ marked scr.old at self }
+    {
+        store(scr, at + self.fore, true);
+        store(scr, at + self.aft, true);
+    }
+
+    // The last pending pair, if there is one.
+    #[tactic(auto, unfolding(crate::specs::Turn::settled))]
+    fn settle(self, scr: &mut [u64], at: usize)
+        requires { Near at self }
+        ensures { scr.new ≡ settled scr.old at self }
+    {
+        if self.aft != 0 {
+            self.mark_pair(scr, at);
+        }
+    }
 }
 
 // An open at i.
+#[tactic(auto, unfolding(crate::specs::Turn::open_turn))]
 fn open_turn(scr: &mut [u64], i: usize, s: Scan) -> Scan
     requires { s.depth < length scr.old }
     ensures { turned result scr.new ≡ open_turn scr.old i s }
 {
-    let d = s.depth;
-    scr[d] = i as u64;
+    scr[s.depth] = i as u64;
     Scan {
-        depth: d + 1,
-        fore: s.fore,
-        aft: s.aft,
+        depth: s.depth + 1,
+        ..s
     }
 }
 
@@ -72,30 +81,28 @@ fn outer(depth: usize, p: usize, i: usize) -> Scan
 }
 
 // A close at i, of the open p.
+#[tactic(auto, unfolding(crate::specs::Turn::pair_turn))]
 fn pair_turn(scr: &mut [u64], at: usize, p: usize, i: usize, s: Scan) -> Scan
     requires { (0 < s.depth) × Near at s }
     ensures { turned result scr.new ≡ pair_turn scr.old at p i s }
 {
-    let d = s.depth - 1;
+    let depth = s.depth - 1;
     if p / 64 == i / 64 {
-        return Scan {
-            depth: d,
-            fore: s.fore,
-            aft: s.aft,
-        };
+        return Scan { depth, ..s };
     }
-    if apart(s, p, i) {
-        mark_pair(scr, at, s);
+    if s.apart(p, i) {
+        s.mark_pair(scr, at);
         return Scan {
-            depth: d,
+            depth,
             fore: p,
             aft: i,
         };
     }
-    outer(d, p, i)
+    outer(depth, p, i)
 }
 
 // The place i, by its bit.
+#[tactic(auto, unfolding(crate::specs::Turn::turn_of))]
 fn turn(scr: &mut [u64], lay: Layout, i: usize, s: Scan) -> Scan
     requires { Turns scr.old lay i s }
     ensures { turned result scr.new ≡ turn_of scr.old (64 * lay.flags) (bit_at scr.old (64 * lay.text + i)) i s }
@@ -103,36 +110,8 @@ fn turn(scr: &mut [u64], lay: Layout, i: usize, s: Scan) -> Scan
     if bit_at(scr, 64 * lay.text + i) {
         return open_turn(scr, i, s);
     }
-    let d = s.depth - 1;
-    let p = scr[d] as usize;
+    let p = scr[s.depth - 1] as usize;
     pair_turn(scr, 64 * lay.flags, p, i, s)
-}
-
-// The last pending pair, if there is one.
-fn settle(scr: &mut [u64], at: usize, s: Scan)
-    requires { Near at s }
-    ensures { scr.new ≡ settled scr.old at s }
-{
-    if s.aft == 0 {
-        return;
-    }
-    mark_pair(scr, at, s);
-}
-
-// The first k words made zero.
-fn clear(scr: &mut [u64], k: usize)
-    requires { k ≤ length scr.old }
-    ensures { scr.new ≡ replicate k 0 ++ drop k scr.old }
-{
-    zero64(&mut scr[..k]);
-}
-
-// The words from k on made zero.
-fn clear_from(scr: &mut [u64], k: usize)
-    requires { k ≤ length scr.old }
-    ensures { scr.new ≡ take k scr.old ++ replicate (length scr.old - k) 0 }
-{
-    zero64(&mut scr[k..]);
 }
 
 // The pass over a string balanced under one root, into flags that are zero; then the stack is made zero.
@@ -145,52 +124,35 @@ fn flag_all(scr: &mut [u64], lay: Layout)
         fore: 0,
         aft: 0,
     };
-    let mut i = 0;
-    while i < lay.bits {
+    for i in 0..lay.bits {
         s = turn(scr, lay, i, s);
-        i += 1;
     }
-    settle(scr, 64 * lay.flags, s);
-    clear(scr, lay.text);
+    s.settle(scr, 64 * lay.flags);
+    scr[..lay.text].fill(0);
 }
 
 // Whether the parts fit `len` words: the stack takes half the bits, and each of the two others the bits.
+#[tactic(auto, unfolding(crate::specs::Scratch::fits_in))]
 pub fn fits(lay: Layout, len: usize) -> bool
     ensures { result ≡ fits_in lay len }
 {
-    if lay.flags < lay.text {
-        return false;
-    }
-    if len < lay.flags {
-        return false;
-    }
-    if 33554432 < lay.flags {
-        return false;
-    }
-    if 2 * lay.text < lay.bits {
-        return false;
-    }
-    if 64 * (lay.flags - lay.text) < lay.bits {
-        return false;
-    }
-    enough(len - lay.flags, lay.bits)
+    lay.text <= lay.flags
+        && lay.flags <= len
+        && lay.flags <= 33554432
+        && lay.bits <= 2 * lay.text
+        && lay.bits <= 64 * (lay.flags - lay.text)
+        && enough(len - lay.flags, lay.bits)
 }
 
 // The flags of the string that scratch holds. Answers whether the parts fit and the string is balanced under one root; if not, scratch is zero.
 pub fn mark(scr: &mut [u64], lay: Layout) -> bool
     ensures { marking result scr.new ≡ mark_in scr.old lay }
 {
-    let text = lay.text;
-    let flags = lay.flags;
-    if fits(lay, scr.len()) {
-        if one_root(&scr[text..], lay.bits) {
-            clear_from(scr, flags);
-            flag_all(scr, lay);
-            return true;
-        }
-        zero64(scr);
-        return false;
+    if fits(lay, scr.len()) && one_root(&scr[lay.text..], lay.bits) {
+        scr[lay.flags..].fill(0);
+        flag_all(scr, lay);
+        return true;
     }
-    zero64(scr);
+    scr.fill(0);
     false
 }

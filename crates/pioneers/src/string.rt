@@ -1,63 +1,36 @@
 // The string of a level list, in scratch.
-ghost use Rattle.std.specs.Prelude.{◌≡◌, true, ◌+◌, ◌-◌, ◌*◌, ◌<◌, ◌≤◌, length};
+ghost use Rattle.std.specs.Prelude.{◌≡◌, true, ◌+◌, ◌-◌, ◌*◌, ◌<◌, ◌≤◌, length, is_some, unwrap_or};
 ghost use Rattle.meaning.specs.Bits.{pack, stored};
 ghost use Rattle.meaning.specs.String.{string};
 ghost use Rattle.meaning.specs.List.{offending};
-ghost use Rattle.pioneers.specs.Placed.{rule_of, said, placing, place_in, Ready, Opened};
+ghost use Rattle.refusal.specs.Said.{refused_of};
+ghost use Rattle.pioneers.specs.Placed.{rule_of, placing, place_in, Ready, Opened};
 ghost use Rattle.pioneers.specs.Node.{node_of, once_of, wrote_of, Allows};
 
-use words::{store, zero64};
+use refusal::Refusal;
+use words::store;
 
-#[derive(Clone, Copy)]
-pub enum Rule {
-    Kept,
-    Broken(usize),
-}
-
-#[derive(Clone, Copy)]
-pub enum Placed {
-    Made,
-    Many(usize),
-    Level(usize),
-    Room,
-}
-
-fn wide(x: u32) -> usize
-    ensures { result ≡ x }
-{
-    x as usize
-}
-
-// The first place that breaks the list rule.
-pub fn check_levels(levels: &[u32]) -> Rule
+// LEVEL at the first place that breaks the list rule.
+pub fn check_levels(levels: &[u32]) -> Result<(), Refusal>
     ensures { result ≡ rule_of (offending levels.now) }
 {
-    let mut most: usize = 0;
-    let mut i = 0;
-    while i < levels.len() {
-        let v = wide(levels[i]);
+    let mut most = 0;
+    for (i, v) in levels.iter().enumerate() {
+        let v = *v as usize;
         if most < v {
-            return Rule::Broken(i);
+            return Err(Refusal::Level(i));
         }
         most = v + 1;
-        i += 1;
     }
-    Rule::Kept
+    Ok(())
 }
 
 // The nodes taken, the bits so far, and the previous level: as the Rust counts it, the open nodes below the root.
-#[derive(Clone, Copy)]
+#[derive(Clone, Copy, PartialEq, Eq, Debug)]
 pub struct Builder {
     pub nodes: usize,
     pub bits: usize,
     pub prev: usize,
-}
-
-// The builder after a turn, and whether the list had a node.
-#[derive(Clone, Copy)]
-pub struct Once {
-    pub builder: Builder,
-    pub more: bool,
 }
 
 // One node: prev - v nodes close, whose zeros stand there already, and it opens.
@@ -75,37 +48,28 @@ fn put_node(words: &mut [u64], s: Builder, v: usize) -> Builder
     }
 }
 
-// The next node of the list, if it has one: the step by value.
-fn next_node(levels: &[u32], words: &mut [u64], s: Builder) -> Once
+// The builder after the next node of the list, if it has one: the step by value.
+fn next_node(levels: &[u32], words: &mut [u64], s: Builder) -> Option<Builder>
     requires { Allows levels.now s }
     ensures { (result ≡ once_of levels.now s) × (words.new ≡ wrote_of levels.now words.old s) }
 {
-    let i = s.nodes;
-    if i < levels.len() {
-        let b = put_node(words, s, wide(levels[i]));
-        return Once {
-            builder: b,
-            more: true,
-        };
-    }
-    Once {
-        builder: s,
-        more: false,
-    }
+    let v = levels.get(s.nodes).copied()?;
+    Some(put_node(words, s, v as usize))
 }
 
 impl Builder {
-    // The same through a lent builder, which is changed.
+    // The same through a lent builder, which is changed. Answers whether the list had a node.
     fn build_once(&mut self, levels: &[u32], words: &mut [u64]) -> bool
         requires { Allows levels.now self.old }
-        ensures { (result ≡ (once_of levels.now self.old).more)
-            × (self.new ≡ (once_of levels.now self.old).builder)
+        ensures { (result ≡ is_some (once_of levels.now self.old))
+            × (self.new ≡ unwrap_or (once_of levels.now self.old) self.old)
             × (words.new ≡ wrote_of levels.now words.old self.old) }
     {
-        let s = *self;
-        let p = next_node(levels, words, s);
-        *self = p.builder;
-        p.more
+        let Some(builder) = next_node(levels, words, *self) else {
+            return false;
+        };
+        *self = builder;
+        true
     }
 }
 
@@ -119,6 +83,7 @@ fn build_all(levels: &[u32], words: &mut [u64])
         bits: 1,
         prev: 0,
     };
+    // Stays a `while`: each turn is a call that changes the lent builder, as 01 has it, and its answer ends the loop.
     while builder.build_once(levels, words) {}
 }
 
@@ -132,24 +97,18 @@ fn write_string(levels: &[u32], words: &mut [u64])
 }
 
 // MANY, LEVEL and ROOM for scratch leave zeros; otherwise the string stands from word n + 1 on, and zeros before and behind it.
-pub fn place(levels: &[u32], scr: &mut [u64]) -> Placed
-    ensures { placing (said result) scr.new ≡ place_in levels.now (length scr.old) }
+pub fn place(levels: &[u32], scr: &mut [u64]) -> Result<(), Refusal>
+    ensures { placing (refused_of result) scr.new ≡ place_in levels.now (length scr.old) }
 {
-    zero64(scr);
+    scr.fill(0);
     let n = levels.len();
     if 1048575 < n {
-        return Placed::Many(n);
+        return Err(Refusal::Many(n));
     }
-    let rule = check_levels(levels);
-    match rule {
-        Rule::Broken(i) => Placed::Level(i),
-        Rule::Kept => {
-            if scr.len() < 2 * n + 2 {
-                return Placed::Room;
-            }
-            let text = n + 1;
-            write_string(levels, &mut scr[text..]);
-            Placed::Made
-        }
+    check_levels(levels)?;
+    if scr.len() < 2 * n + 2 {
+        return Err(Refusal::Room(5));
     }
+    write_string(levels, &mut scr[n + 1..]);
+    Ok(())
 }

@@ -21,7 +21,9 @@ use Rattle.record.specs.declared.Counts.{Counts}
 use Rattle.record.specs.Record.{tree_in}
 use Rattle.questions.specs.Said.{node_of, said_edge}
 use Rattle.questions.specs.declared.Node.{Node}
-use Rattle.questions.specs.declared.Linked.{Linked}
+use Rattle.std.specs.Prelude.{Option as Maybe, Result}
+use Rattle.refusal.specs.declared.Refusal.{Refusal}
+use Rattle.questions.specs.declared.Edge.{Edge}
 
 -- areas 0 to 4, as a question is lent them: it does not look at scratch
 abbrev pub five : Lent → Lent
@@ -46,7 +48,7 @@ pub sibling_lent : (t : Tree) (a : Lent) (n : child.Node) → next_sibling t (fi
 unfolding next_sibling node_refusal counts_fit
 sibling_lent t a n = ap (λ x. elim (node_refusal t a n) [ none ↦ x | some r ↦ refused r ]) (sibling_by_lent t a n (close_at (levels_in t a) n.place))
 
-module _ (vs bs : List ℕ) (rooms : Rooms) (a : Accepted vs bs rooms) (c : Counts) (e : tree_in c ≡ tree_of vs) (n : Node) (i : IsNode (string vs) (node_of n)) (r : Linked) where
+module _ (vs bs : List ℕ) (rooms : Rooms) (a : Accepted vs bs rooms) (c : Counts) (e : tree_in c ≡ tree_of vs) (n : Node) (i : IsNode (string vs) (node_of n)) (r : Result (Maybe Edge) Refusal) where
   pub first_child_matches : said_edge r ≡ first_child (tree_in c) (five (lent_of vs bs rooms)) (node_of n) → said_edge r ≡ edge_of bs (child (string vs) (node_of n))
   first_child_matches f =
       f

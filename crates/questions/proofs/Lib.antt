@@ -1,7 +1,8 @@
 mod Loops
 mod Links
+mod Passing
 mod Asking
-mod Summing
+mod Sums
 pub mod Agree
 pub mod Built
 pub mod Determined

@@ -2,17 +2,20 @@
 use mathlib.Core.Path.{◌≡◌, sym, ap, ◌∙◌}
 use mathlib.Core.Bool.{Bool, true, false}
 use mathlib.Core.Option.{none, some}
-use mathlib.Core.List.{List, []}
+use mathlib.Core.List.{List}
+use lib.Dec.{ltb}
 use Prim.Native.Nat.{ℕ, suc, ◌+◌, ◌<◌, ◌≤◌}
 use native.Mathlib.Numerals.{add-one}
 use native.Mathlib.Omega.{arith}
 use lib.ListN.{length, get_or, get_or-eq_default}
 use borrow.Author.Tests.{le-ltb, lt-ltb}
-use Rattle.meaning.specs.Answers.{refused, broken}
+use Rattle.meaning.specs.Answers.{Refusal, Answer, is, refused, broken, provided}
 use Rattle.meaning.specs.Bits.{bits_of}
 use Rattle.meaning.specs.Close.{test}
-use Rattle.meaning.specs.Questions.{edge, lent_at, labelled}
-use Rattle.meaning.proofs.If.{if_true, if_false}
+use Rattle.meaning.specs.Build.{Lent}
+use Rattle.meaning.specs.Questions.{Edge, edge, labelled}
+use Rattle.record.specs.declared.Counts.{Counts}
+use Rattle.record.specs.Record.{tree_in}
 use Rattle.meaning.proofs.Stored.{length_bits}
 
 pub after_out : (ws : List ℕ) (n i : ℕ) → n ≤ i → none ≡ test (get_or (bits_of ws n) (i + 1) false) (some (i + 1))
@@ -30,15 +33,33 @@ pub after_shut : (ws : List ℕ) (n i : ℕ) (b : Bool) → b ≡ get_or (bits_o
 unfolding test
 after_shut ws n i b e f = rw (sym e ∙ f)
 
-pub label_out : (us : List ℕ) (k : ℕ) → length us ≤ k → 0 ≡ get_or us k 0
-label_out us k h = sym (get_or-eq_default us 0 h)
+-- label k
+module _ (us : List ℕ) (n k : ℕ) where
+  pub label_lost : n ≤ k → refused broken ≡ provided (ltb k n) broken (is (get_or us k 0))
+  unfolding provided
+  label_lost h = rw (le-ltb k n h)
 
-module _ (us : List ℕ) (n p k : ℕ) where
-  pub edge_broken : n ≤ k → refused broken ≡ labelled (record { nodes = n; counts = [] }) (lent_at [] [] [] [] us) (some (record { place = p; id = suc k }))
-  unfolding labelled
-  edge_broken h = sym (if_false _ _ (le-ltb k n h))
+  pub label_kept : k < n → (b : ℕ) → b ≡ get_or us k 0 → is b ≡ provided (ltb k n) broken (is (get_or us k 0))
+  unfolding provided
+  label_kept h b e = rw (lt-ltb k n h) (ap is e)
 
-  pub edge_is : (b : ℕ) → k < n → b ≡ get_or us k 0
-      → edge (record { place = p; id = k + 1 }) b ≡ labelled (record { nodes = n; counts = [] }) (lent_at [] [] [] [] us) (some (record { place = p; id = suc k }))
-  unfolding labelled
-  edge_is b h e = sym (if_true _ _ (lt-ltb k n h) ∙ ap (edge (record { place = p; id = suc k })) (sym e) ∙ ap (λ i. edge (record { place = p; id = i }) b) (sym (add-one k)))
+-- the edge to the node at q of id k + 1
+module _ (c : Counts) (a : Lent) (q k : ℕ) where
+  pub edge_lost : (r : Refusal) → refused r ≡ provided (ltb k c.nodes) broken (is (get_or a.labels k 0)) → refused r ≡ labelled (tree_in c) a (some (record { place = q; id = suc k }))
+  unfolding labelled provided tree_in
+  edge_lost r e = go (ltb k c.nodes) e
+    where
+      go : (b : Bool) → refused r ≡ provided b broken (is (get_or a.labels k 0))
+          → ◌≡◌ {A = Answer Edge} (refused r) (elim b [ true ↦ edge (record { place = q; id = suc k }) (get_or a.labels k 0) | false ↦ refused broken ])
+      go true e = absurd cc
+      go false e = let z : r ≡ broken = cc in ap refused z
+
+  pub edge_kept : (b : ℕ) → is b ≡ provided (ltb k c.nodes) broken (is (get_or a.labels k 0))
+      → edge (record { place = q; id = k + 1 }) b ≡ labelled (tree_in c) a (some (record { place = q; id = suc k }))
+  unfolding labelled provided tree_in
+  edge_kept b e = ap (λ i. edge (record { place = q; id = i }) b) (add-one k) ∙ go (ltb k c.nodes) e
+    where
+      go : (b' : Bool) → is b ≡ provided b' broken (is (get_or a.labels k 0))
+          → ◌≡◌ {A = Answer Edge} (edge (record { place = q; id = suc k }) b) (elim b' [ true ↦ edge (record { place = q; id = suc k }) (get_or a.labels k 0) | false ↦ refused broken ])
+      go true e = let z : b ≡ get_or a.labels k 0 = cc in ap (edge (record { place = q; id = suc k })) z
+      go false e = absurd cc

@@ -1,3 +1,2 @@
 pub mod Said
-pub mod Leaf
-pub mod Sizes
+pub mod Closed

@@ -1,36 +1,25 @@
 // The leaves between two places.
-ghost use Rattle.std.specs.Prelude.{◌≡◌, ◌≤◌};
+ghost use Rattle.std.specs.Prelude.{◌≡◌, ◌≤◌, get_or};
 ghost use Rattle.meaning.specs.Bits.{bits_of};
 ghost use Rattle.meaning.specs.Leaves.{leaf_count};
-ghost use Rattle.questions.specs.Leaf.{leaf_at};
 
-use closes::level;
+use closes::level::Bits;
+use record::Catalogue;
 
-// "each a 1 then a 0".
-fn leaf(x: bool, y: bool) -> usize
-    ensures { result ≡ leaf_at x y }
+// The leaves strictly between p and c: "each a 1 then a 0".
+pub(crate) fn leaves_between(catalogue: &Catalogue<'_>, p: usize, c: usize) -> usize
+    requires { (p ≤ c) × (c ≤ get_or catalogue.now.counts.bits 0 0) }
+    ensures { result ≡ leaf_count (bits_of catalogue.now.words.now (get_or catalogue.now.counts.bits 0 0)) p c }
 {
-    if x {
-        if y {
-            return 0;
-        }
-        return 1;
-    }
-    0
-}
-
-// The leaves strictly between p and c.
-pub(crate) fn leaves_between(words: &[u64], bits: usize, p: usize, c: usize) -> usize
-    requires { (p ≤ c) × (c ≤ bits) }
-    ensures { result ≡ leaf_count (bits_of words.now bits) p c }
-{
+    let string = Bits {
+        words: catalogue.words,
+        len: catalogue.counts.bits[0],
+    };
     let mut total: usize = 0;
-    let mut i = p;
-    while 2 < c - i {
-        i += 1;
-        let x = level::open_at(words, bits, i);
-        let y = level::open_at(words, bits, i + 1);
-        total += leaf(x, y);
+    for i in p..c.saturating_sub(2) {
+        if string.open_at(i + 1) && !string.open_at(i + 2) {
+            total += 1;
+        }
     }
     total
 }

@@ -3,17 +3,18 @@
 
 ghost use Rattle.std.specs.Prelude.{◌≡◌};
 ghost use Rattle.meaning.specs.Child as child;
-ghost use Rattle.meaning.specs.Questions.{lent_at, first_child, next_sibling, leaves_below, label_in, nodes_in, is_empty_in, bytes_held};
-ghost use Rattle.record.specs.Record.{tree_in};
-ghost use Rattle.questions.specs.Said.{node_of, said_edge, said_label, said_number, said_truth};
+ghost use Rattle.meaning.specs.Questions.{first_child, next_sibling, leaves_below, label_in, nodes_in, is_empty_in, bytes_held};
+ghost use Rattle.record.specs.Record.{tree_of, lent_of};
+ghost use Rattle.refusal.specs.Said.{said_number, said_truth, found_number};
+ghost use Rattle.questions.specs.Said.{node_of, said_edge};
 
 use closes::fit;
-use closes::level::Step;
-use record::Counts;
+use record::Catalogue;
+use refusal::Refusal;
 
 mod checks;
-mod edge;
 mod leaf;
+mod link;
 mod size;
 
 // A node is a place and an id.
@@ -23,45 +24,11 @@ pub struct Node {
     pub id: usize,
 }
 
-#[derive(Clone, Copy)]
-pub enum Refusal {
-    Place(usize),
-    Close(usize),
-    Broken,
-}
-
-// What the checks of a node say.
-#[derive(Clone, Copy)]
-pub enum Check {
-    Passed,
-    Refused(Refusal),
-}
-
 // An edge is the new node and its label.
 #[derive(Clone, Copy)]
-pub enum Linked {
-    Edge(Node, u32),
-    Nothing,
-    Refused(Refusal),
-}
-
-#[derive(Clone, Copy)]
-pub enum Labelled {
-    Is(u32),
-    Nothing,
-    Refused(Refusal),
-}
-
-#[derive(Clone, Copy)]
-pub enum Number {
-    Is(usize),
-    Refused(Refusal),
-}
-
-#[derive(Clone, Copy)]
-pub enum Truth {
-    Is(bool),
-    Refused(Refusal),
+pub struct Edge {
+    pub node: Node,
+    pub label: u32,
 }
 
 // "the root is id 0".
@@ -72,158 +39,68 @@ pub fn root() -> Node
 }
 
 // "From place i it is at i + 1, if that is an open before the length".
-pub fn first_child(
-    words: &[u64],
-    bytes: &[u8],
-    middles: &[u16],
-    larges: &[u64],
-    labels: &[u32],
-    c: Counts,
-    node: Node,
-) -> Linked
-    ensures { said_edge result ≡ first_child (tree_in c) (lent_at words.now bytes.now middles.now larges.now labels.now) (node_of node) }
+pub fn first_child(catalogue: &Catalogue<'_>, node: Node) -> Result<Option<Edge>, Refusal>
+    ensures { said_edge result ≡ first_child (tree_of catalogue.now) (lent_of catalogue.now) (node_of node) }
 {
-    let check = checks::check(words, bytes, middles, larges, labels, c, node);
-    if let Check::Refused(r) = check {
-        return Linked::Refused(r);
-    }
-    let bits = c.bits[0];
-    let next = edge::open_after(words, bits, node.place);
-    let Step::Is(place) = next else {
-        return Linked::Nothing;
+    checks::check(catalogue, node)?;
+    let Some(place) = link::open_after(catalogue, node.place) else {
+        return Ok(None);
     };
-    edge::edge_to(labels, c.nodes, place, node.id)
+    link::edge_to(catalogue, place, node.id)
 }
 
 // "From place i with close c it is at c + 1, if that is an open before the length".
-pub fn next_sibling(
-    words: &[u64],
-    bytes: &[u8],
-    middles: &[u16],
-    larges: &[u64],
-    labels: &[u32],
-    c: Counts,
-    node: Node,
-) -> Linked
-    ensures { said_edge result ≡ next_sibling (tree_in c) (lent_at words.now bytes.now middles.now larges.now labels.now) (node_of node) }
+pub fn next_sibling(catalogue: &Catalogue<'_>, node: Node) -> Result<Option<Edge>, Refusal>
+    ensures { said_edge result ≡ next_sibling (tree_of catalogue.now) (lent_of catalogue.now) (node_of node) }
 {
-    let check = checks::check(words, bytes, middles, larges, labels, c, node);
-    if let Check::Refused(r) = check {
-        return Linked::Refused(r);
-    }
-    let close = checks::close_of(words, bytes, middles, larges, labels, c, node.place);
-    let Step::Is(e) = close else {
-        return Linked::Refused(Refusal::Broken);
+    let close = checks::close_of(catalogue, node)?;
+    let Some(place) = link::open_after(catalogue, close) else {
+        return Ok(None);
     };
-    if e < node.place {
-        return Linked::Refused(Refusal::Broken);
-    }
-    let bits = c.bits[0];
-    let next = edge::open_after(words, bits, e);
-    let Step::Is(place) = next else {
-        return Linked::Nothing;
-    };
-    edge::edge_to(labels, c.nodes, place, node.id + (e - node.place) / 2)
+    link::edge_to(catalogue, place, node.id + (close - node.place) / 2)
 }
 
 // "its label is label k", of id k + 1; the root has none.
-pub fn label(
-    words: &[u64],
-    bytes: &[u8],
-    middles: &[u16],
-    larges: &[u64],
-    labels: &[u32],
-    c: Counts,
-    node: Node,
-) -> Labelled
-    ensures { said_label result ≡ label_in (tree_in c) (lent_at words.now bytes.now middles.now larges.now labels.now) (node_of node) }
+pub fn label(catalogue: &Catalogue<'_>, node: Node) -> Result<Option<u32>, Refusal>
+    ensures { found_number result ≡ label_in (tree_of catalogue.now) (lent_of catalogue.now) (node_of node) }
 {
-    let check = checks::check(words, bytes, middles, larges, labels, c, node);
-    if let Check::Refused(r) = check {
-        return Labelled::Refused(r);
-    }
+    checks::check(catalogue, node)?;
     if node.id == 0 {
-        return Labelled::Nothing;
+        return Ok(None);
     }
-    let k = node.id - 1;
-    if c.nodes <= k {
-        return Labelled::Refused(Refusal::Broken);
-    }
-    Labelled::Is(edge::label_at(labels, k))
+    let label = link::label_at(catalogue, node.id - 1)?;
+    Ok(Some(label))
 }
 
 // "the nodes without children strictly below a node".
-pub fn leaf_count(
-    words: &[u64],
-    bytes: &[u8],
-    middles: &[u16],
-    larges: &[u64],
-    labels: &[u32],
-    c: Counts,
-    node: Node,
-) -> Number
-    ensures { said_number result ≡ leaves_below (tree_in c) (lent_at words.now bytes.now middles.now larges.now labels.now) (node_of node) }
+pub fn leaf_count(catalogue: &Catalogue<'_>, node: Node) -> Result<usize, Refusal>
+    ensures { said_number result ≡ leaves_below (tree_of catalogue.now) (lent_of catalogue.now) (node_of node) }
 {
-    let check = checks::check(words, bytes, middles, larges, labels, c, node);
-    if let Check::Refused(r) = check {
-        return Number::Refused(r);
-    }
-    let close = checks::close_of(words, bytes, middles, larges, labels, c, node.place);
-    let Step::Is(e) = close else {
-        return Number::Refused(Refusal::Broken);
-    };
-    if e < node.place {
-        return Number::Refused(Refusal::Broken);
-    }
-    let bits = c.bits[0];
-    Number::Is(leaf::leaves_between(words, bits, node.place, e))
+    let close = checks::close_of(catalogue, node)?;
+    Ok(leaf::leaves_between(catalogue, node.place, close))
 }
 
-pub fn nodes(
-    words: &[u64],
-    bytes: &[u8],
-    middles: &[u16],
-    larges: &[u64],
-    labels: &[u32],
-    c: Counts,
-) -> Number
-    ensures { said_number result ≡ nodes_in (tree_in c) (lent_at words.now bytes.now middles.now larges.now labels.now) }
+pub fn nodes(catalogue: &Catalogue<'_>) -> Result<usize, Refusal>
+    ensures { said_number result ≡ nodes_in (tree_of catalogue.now) (lent_of catalogue.now) }
 {
-    if !fit::counts_fit(words, bytes, middles, larges, labels, c) {
-        return Number::Refused(Refusal::Broken);
+    if !fit::counts_fit(catalogue) {
+        return Err(Refusal::Broken);
     }
-    Number::Is(c.nodes)
+    Ok(catalogue.counts.nodes)
 }
 
-pub fn is_empty(
-    words: &[u64],
-    bytes: &[u8],
-    middles: &[u16],
-    larges: &[u64],
-    labels: &[u32],
-    c: Counts,
-) -> Truth
-    ensures { said_truth result ≡ is_empty_in (tree_in c) (lent_at words.now bytes.now middles.now larges.now labels.now) }
+pub fn is_empty(catalogue: &Catalogue<'_>) -> Result<bool, Refusal>
+    ensures { said_truth result ≡ is_empty_in (tree_of catalogue.now) (lent_of catalogue.now) }
 {
-    if !fit::counts_fit(words, bytes, middles, larges, labels, c) {
-        return Truth::Refused(Refusal::Broken);
-    }
-    Truth::Is(c.nodes == 0)
+    Ok(nodes(catalogue)? == 0)
 }
 
 // "Byte size", of all that the record counts.
-pub fn byte_size(
-    words: &[u64],
-    bytes: &[u8],
-    middles: &[u16],
-    larges: &[u64],
-    labels: &[u32],
-    c: Counts,
-) -> Number
-    ensures { said_number result ≡ bytes_held (tree_in c) (lent_at words.now bytes.now middles.now larges.now labels.now) }
+pub fn byte_size(catalogue: &Catalogue<'_>) -> Result<usize, Refusal>
+    ensures { said_number result ≡ bytes_held (tree_of catalogue.now) (lent_of catalogue.now) }
 {
-    if !fit::counts_fit(words, bytes, middles, larges, labels, c) {
-        return Number::Refused(Refusal::Broken);
+    if !fit::counts_fit(catalogue) {
+        return Err(Refusal::Broken);
     }
-    size::size_of(c)
+    size::size_of(&catalogue.counts).ok_or(Refusal::Broken)
 }

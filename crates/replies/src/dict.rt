@@ -1,52 +1,31 @@
-// The dictionary by itself: areas 1 to 3, with the record's counts of the first dictionary.
+// The dictionary by itself: areas 1 to 3, with the record's counts of the first dictionary. It tells of its ones alone.
 use crate::op::Op;
 use asking::{Answer, Fault};
-use record::Counts;
-use sparse_one_nnd::{Count, Found, SparseOneNnd};
+use record::Catalogue;
+use sparse_one_nnd::{DictAreas, SparseOneNnd};
 
-// The counts of the first dictionary.
-fn dict_in(c: Counts) -> SparseOneNnd {
+// The first dictionary's counts.
+pub fn first_dict(c: &Catalogue<'_>) -> SparseOneNnd {
     SparseOneNnd {
-        bytes: c.bytes[0],
-        middles: c.middles[0],
-        larges: c.larges[0],
+        bytes: c.counts.bytes[0],
+        middles: c.counts.middles[0],
+        larges: c.counts.larges[0],
     }
 }
 
-fn counted(r: Count) -> Answer {
-    match r {
-        Count::Is(n) => Answer::Number(n),
-        Count::Broken => Answer::Refused(9, 0),
-    }
-}
-
-fn found(r: Found) -> Answer {
-    match r {
-        Found::At(i) => Answer::Number(i),
-        Found::Nothing => Answer::Nothing,
-        Found::Broken => Answer::Refused(9, 0),
-    }
-}
-
-pub fn dict_size(c: Counts) -> Answer {
-    let d = dict_in(c);
-    counted(d.byte_size())
-}
-
-pub fn dict_asked(
-    bytes: &[u8],
-    middles: &[u16],
-    larges: &[u64],
-    c: Counts,
-    op: Op,
-    i: usize,
-) -> Answer {
-    let d = dict_in(c);
+pub fn dict_asked(c: &Catalogue<'_>, op: Op, i: usize) -> Result<Answer, Fault> {
+    let dict = first_dict(c);
+    let areas = DictAreas {
+        bytes: c.bytes,
+        middles: c.middles,
+        larges: c.larges,
+    };
+    // Each arm calls another method, so a table of functions would be no plainer.
     match op {
-        Op::RankOne => counted(d.rank_one(bytes, middles, larges, i)),
-        Op::SelectOne => found(d.select_one(bytes, middles, larges, i)),
-        Op::PredOne => found(d.pred_one(bytes, middles, larges, i)),
-        Op::SuccOne => found(d.succ_one(bytes, middles, larges, i)),
-        _ => Answer::Bad(Fault::Words),
+        Op::RankOne => Ok(dict.rank_one(areas, i).into()),
+        Op::SelectOne => Ok(dict.select_one(areas, i).into()),
+        Op::PredOne => Ok(dict.pred_one(areas, i).into()),
+        Op::SuccOne => Ok(dict.succ_one(areas, i).into()),
+        _ => Err(Fault::Words),
     }
 }

@@ -1,140 +1,163 @@
 -- The questions to a level's own part, on each way.
 use mathlib.Core.Path.{◌≡◌, refl, sym, ap, ap₂, ◌∙◌}
-use mathlib.Core.Bool.{Bool, true, false}
+use mathlib.Core.Bool.{true, false}
 use mathlib.Core.Option.{Option, none, some}
 use mathlib.Core.List.{List}
 use Prim.Native.Nat.{ℕ, zero, suc, pred, min, ◌+◌, ◌*◌, ◌-◌, ◌/◌, ◌^◌, ◌≤◌, ◌<◌}
 use native.Mathlib.Numerals.{add-one}
 use native.Mathlib.Omega.{arith}
-use lib.Dec.{eqb}
 use lib.ListN.{length, get_or, take, drop}
 use borrow.Author.Tests.{eq-eqb, ne_eqb, lt-ltb, le-ltb}
-use Rattle.meaning.specs.Answers.{is, nothing, or_broken}
-use Rattle.meaning.specs.Dictionary.{Dict, is_empty, before, rank_from, rank_of, placed, start_large, start_middle, select_from, select_of, pred_of, select_next, succ_by, succ_of}
+use Rattle.std.specs.Prelude as rust
+use Rattle.std.specs.Prelude.{None, Some, Result, Ok, Err, ok_or, map}
+use Rattle.std.proofs.lemmas.List.{map-id}
+use Rattle.meaning.specs.Answers.{Answer, is, nothing, refused, broken, or_broken}
+use Rattle.meaning.specs.Dictionary.{Dict, is_empty, before, rank_from, rank_of, limit, placed, start_large, start_middle, select_from, select_of, pred_of, select_next, succ_by, succ_of}
+use Rattle.meaning.specs.Direct.{Entries, entries_fit, if_fit, dict_in}
 use Rattle.meaning.proofs.If.{if_true, if_false}
-use Rattle.sparse_one_nnd.specs.declared.Count.{Count}
-use Rattle.sparse_one_nnd.specs.declared.Count.TheVariants as count
-use Rattle.sparse_one_nnd.specs.declared.Found.{Found}
-use Rattle.sparse_one_nnd.specs.declared.Found.TheVariants as found
-use Rattle.sparse_one_nnd.specs.Said.{dict_at, said_count, said_found}
-use Rattle.sparse_one_nnd.specs.Start.{counted}
+use Rattle.refusal.specs.declared.Refusal.{Refusal}
+use Rattle.refusal.specs.declared.Refusal.TheVariants.{Broken}
+use Rattle.refusal.specs.Said.{refusal_of, said_number, found_number, option_of}
+use Rattle.sparse_one_nnd.specs.Said.{dict_at}
+use Rattle.sparse_one_nnd.specs.Start.{entry_of}
 use Rattle.sparse_one_nnd.proofs.Seeks.{before_less}
-use Rattle.sparse_one_nnd.proofs.Starts.{no_large, no_middle, from_out, from_above}
+use Rattle.sparse_one_nnd.proofs.Starts.{entry_out, entry_is, no_large, no_middle, from_out, from_above}
+use Rattle.sparse_one_nnd.proofs.Replies.{said_or}
 
-module _ (B M L : List ℕ) where
-  -- rank
-  module _ (x : ℕ) (t : Bool) (e : t ≡ eqb (length B + length M + length L) 0) where
-    pub rank_empty : t ≡ true → said_count (count.Is 0) ≡ or_broken (rank_of (dict_at B M L) x)
-    unfolding said_count rank_of is_empty or_broken
-    rank_empty f = sym (ap or_broken (if_true _ _ (sym e ∙ f)))
+-- rank
+module _ (d : Dict) (x : ℕ) where
+  pub rank_empty : true ≡ is_empty d → said_number (Ok 0) ≡ or_broken (rank_of d x)
+  unfolding rank_of or_broken
+  rank_empty e = sym (ap or_broken (if_true _ _ (sym e)))
 
-    pub rank_is : (g m : ℕ) (a : Count) → t ≡ false → g ≡ min (x / 65536) (length L / 2 - 1) → m ≡ min (x / 2048) (length M / 2 - 1)
-        → said_count a ≡ counted (rank_from (dict_at B M L) x g m) → said_count a ≡ or_broken (rank_of (dict_at B M L) x)
-    unfolding rank_of is_empty
-    rank_is g m a f u v r =
-        r ∙ ap₂ (λ (g m : ℕ). counted (rank_from (dict_at B M L) x g m)) u v ∙ sym (ap or_broken (if_false _ _ (sym e ∙ f)))
+  pub rank_is : (r : rust.Option ℕ) (g m : ℕ) → false ≡ is_empty d → g ≡ min (x / 65536) (length d.large / 2 - 1) → m ≡ min (x / 2048) (length d.middle / 2 - 1)
+      → option_of r ≡ limit (rank_from d x g m) → said_number (ok_or r Broken) ≡ or_broken (rank_of d x)
+  unfolding rank_of
+  rank_is r g m e u v f =
+      said_or r (rank_of d x) (f ∙ ap₂ (λ (g m : ℕ). limit (rank_from d x g m)) u v ∙ sym (if_false _ _ (sym e)))
 
-  -- select from large entry g
-  module _ (q g : ℕ) where
-    pub large_out : length L / 2 ≤ g → said_found found.Broken ≡ placed (select_from (dict_at B M L) q g (start_middle (dict_at B M L) q g))
-    large_out h = from_out (dict_at B M L) q g (start_middle (dict_at B M L) q g) (no_large B M L g (start_middle (dict_at B M L) q g) h)
+-- a dictionary in whole areas: its own part, if the counts fit
+module _ (e : Entries) (d : Dict) where
+  pub unfit : (y : Refusal) (f : Answer ℕ) → (entries_fit e d ≡ false) × (y ≡ Broken) → refused (refusal_of y) ≡ if_fit e d f
+  unfolding if_fit
+  unfit y f h = ap (λ (y : Refusal). refused (refusal_of y)) h.1 ∙ sym (if_false _ _ h.0)
 
-    pub large_none : length M / 2 ≤ 32 * g → said_found found.Broken ≡ placed (select_from (dict_at B M L) q g (start_middle (dict_at B M L) q g))
+  pub fit : (Q : Dict → Answer ℕ) (a : Dict) → (entries_fit e d ≡ true) × (a ≡ dict_in e d) → Q a ≡ if_fit e d (Q (dict_in e d))
+  unfolding if_fit
+  fit Q a h = ap Q h.1 ∙ sym (if_true _ _ h.0)
+
+-- select from large entry g
+module _ (B M L : List ℕ) (q g : ℕ) where
+  pub large_out : None ≡ entry_of (map (λ x. x) L) g → refused broken ≡ placed (select_from (dict_at B M L) q g (start_middle (dict_at B M L) q g))
+  large_out e = from_out (dict_at B M L) q g (start_middle (dict_at B M L) q g) (no_large B M L g (start_middle (dict_at B M L) q g) (entry_out L g e))
+
+  pub large_none : length M / 2 ≤ 32 * g → refused broken ≡ placed (select_from (dict_at B M L) q g (start_middle (dict_at B M L) q g))
+  unfolding start_middle
+  large_none h = from_out (dict_at B M L) q g (start_middle (dict_at B M L) q g) (no_middle B M L g (start_middle (dict_at B M L) q g) past)
+    where
+      past : length M / 2 ≤ start_middle (dict_at B M L) q g
+      past = omega arith
+
+  module _ (p ones : ℕ) (e : Some (p, ones) ≡ entry_of (map (λ x. x) L) g) where
+    pub large_there : (g < length L / 2) × (ones ≡ get_or L (2 * g + 1) 0)
+    large_there = let h = entry_is L g p ones e in (h.0, h.1.1)
+
+    pub large_above : q ≤ ones → refused broken ≡ placed (select_from (dict_at B M L) q g (start_middle (dict_at B M L) q g))
+    large_above h = from_above (dict_at B M L) q g (start_middle (dict_at B M L) q g) (omega (arith, large_there))
+
+    pub large_on : (m : ℕ) → ones < q → m ≡ 32 * g + pred (before 0 (q - ones) (take 64 (drop (64 * g) M)))
+        → placed (select_from (dict_at B M L) q g m) ≡ placed (select_from (dict_at B M L) q g (start_middle (dict_at B M L) q g))
     unfolding start_middle
-    large_none h = from_out (dict_at B M L) q g (start_middle (dict_at B M L) q g) (no_middle B M L g (start_middle (dict_at B M L) q g) past)
+    large_on m h f = ap (λ (k : ℕ). placed (select_from (dict_at B M L) q g k)) (f ∙ same)
       where
-        past : length M / 2 ≤ start_middle (dict_at B M L) q g
-        past = omega arith
+        same : 32 * g + pred (before 0 (q - ones) (take 64 (drop (64 * g) M))) ≡ start_middle (dict_at B M L) q g
+        same =
+            ap (λ (b : ℕ). 32 * g + pred (before 0 (q - b) (take 64 (drop (64 * g) M)))) large_there.1
+            ∙ ap (λ (k : ℕ). 32 * g + pred k) (sym (before_less (get_or L (2 * g + 1) 0) q (take 64 (drop (64 * g) M)) (omega (arith, large_there))))
 
-    module _ (ones : ℕ) (e : ones ≡ get_or L (2 * g + 1) 0) where
-      pub large_above : q ≤ ones → said_found found.Broken ≡ placed (select_from (dict_at B M L) q g (start_middle (dict_at B M L) q g))
-      large_above h = from_above (dict_at B M L) q g (start_middle (dict_at B M L) q g) (omega arith)
+-- select
+module _ (d : Dict) (r : ℕ) where
+  pub select_zero : r ≡ 0 → nothing ≡ select_of d r
+  unfolding select_of
+  select_zero e = rw e
 
-      pub large_on : (m : ℕ) (a : Found) → ones < q → m ≡ 32 * g + pred (before 0 (q - ones) (take 64 (drop (64 * g) M)))
-          → said_found a ≡ placed (select_from (dict_at B M L) q g m) → said_found a ≡ placed (select_from (dict_at B M L) q g (start_middle (dict_at B M L) q g))
-      unfolding start_middle
-      large_on m a h f r = r ∙ ap (λ (k : ℕ). placed (select_from (dict_at B M L) q g k)) (f ∙ same)
-        where
-          same : 32 * g + pred (before 0 (q - ones) (take 64 (drop (64 * g) M))) ≡ start_middle (dict_at B M L) q g
-          same =
-              ap (λ (b : ℕ). 32 * g + pred (before 0 (q - b) (take 64 (drop (64 * g) M)))) e
-              ∙ ap (λ (k : ℕ). 32 * g + pred k) (sym (before_less (get_or L (2 * g + 1) 0) q (take 64 (drop (64 * g) M)) (omega arith)))
+  pub select_empty : true ≡ is_empty d → nothing ≡ select_of d r
+  unfolding select_of
+  select_empty e = go r
+    where
+      go : (r : ℕ) → nothing ≡ select_of d r
+      go zero = refl
+      go (suc r) = sym (if_true _ _ (sym e))
 
-  -- select
-  module _ (r : ℕ) where
-    pub select_zero : r ≡ 0 → said_found found.Nothing ≡ select_of (dict_at B M L) r
-    unfolding said_found select_of
-    select_zero e = rw e
+  pub select_is : (n g : ℕ) → (r ≡ 0 → ⊥) → false ≡ is_empty d → n ≡ before 0 r (map (λ x. x) d.large) → g ≡ n - 1
+      → placed (select_from d r g (start_middle d r g)) ≡ select_of d r
+  unfolding select_of start_large
+  select_is n g h f u v =
+      ap (λ (g : ℕ). placed (select_from d r g (start_middle d r g))) (v ∙ less ∙ ap pred (u ∙ ap (before 0 r) (map-id d.large))) ∙ go r h
+    where
+      less : n - 1 ≡ pred n
+      less = omega arith
 
-    module _ (t : Bool) (e : t ≡ eqb (length B + length M + length L) 0) where
-      pub select_empty : t ≡ true → said_found found.Nothing ≡ select_of (dict_at B M L) r
-      unfolding said_found select_of is_empty
-      select_empty f = go r
-        where
-          go : (r : ℕ) → nothing ≡ select_of (dict_at B M L) r
-          go zero = refl
-          go (suc r) = sym (if_true _ _ (sym e ∙ f))
-
-      pub select_is : (n g : ℕ) (a : Found) → (r ≡ 0 → ⊥) → t ≡ false → n ≡ before 0 r L → g ≡ pred n
-          → said_found a ≡ placed (select_from (dict_at B M L) r g (start_middle (dict_at B M L) r g)) → said_found a ≡ select_of (dict_at B M L) r
-      unfolding select_of is_empty start_large
-      select_is n g a h f u v s =
-          s ∙ ap (λ (g : ℕ). placed (select_from (dict_at B M L) r g (start_middle (dict_at B M L) r g))) (v ∙ ap pred u) ∙ go r h
-        where
-          go : (r : ℕ) → (r ≡ 0 → ⊥) → placed (select_from (dict_at B M L) r (pred (before 0 r L)) (start_middle (dict_at B M L) r (pred (before 0 r L)))) ≡ select_of (dict_at B M L) r
-          go zero h = absurd (h refl)
-          go (suc r) h = sym (if_false _ _ (sym e ∙ f))
+      go : (r : ℕ) → (r ≡ 0 → ⊥) → placed (select_from d r (pred (before 0 r d.large)) (start_middle d r (pred (before 0 r d.large)))) ≡ select_of d r
+      go zero h = absurd (h refl)
+      go (suc r) h = sym (if_false _ _ (sym f))
 
 -- rank's answer, taken back
-rank_none : (o : Option ℕ) → said_count count.Broken ≡ or_broken o → o ≡ none
-unfolding said_count or_broken
-rank_none none e = refl
-rank_none (some k) e = absurd (let z : ◌≡◌ {A = ℕ} 0 1 = cc in omega arith)
+module _ (d : Dict) (x : ℕ) where
+  rank_none : (y : Refusal) → said_number (Err y) ≡ or_broken (rank_of d x) → (rank_of d x ≡ none) × ◌≡◌ {A = Answer ℕ} (refused (refusal_of y)) (refused broken)
+  unfolding or_broken
+  rank_none y e = go (rank_of d x) e
+    where
+      go : (o : Option ℕ) → said_number (Err y) ≡ or_broken o → (o ≡ none) × ◌≡◌ {A = Answer ℕ} (refused (refusal_of y)) (refused broken)
+      go none e = (refl, e)
+      go (some k) e = absurd cc
 
-rank_some : (o : Option ℕ) (r : ℕ) → said_count (count.Is r) ≡ or_broken o → o ≡ some r
-unfolding said_count or_broken
-rank_some none r e = absurd (let z : ◌≡◌ {A = ℕ} 0 1 = cc in omega arith)
-rank_some (some k) r e = let z : r ≡ k = cc in ap some (sym z)
+  rank_some : (r : ℕ) → said_number (Ok r) ≡ or_broken (rank_of d x) → rank_of d x ≡ some r
+  unfolding or_broken
+  rank_some r e = go (rank_of d x) e
+    where
+      go : (o : Option ℕ) → said_number (Ok r) ≡ or_broken o → o ≡ some r
+      go none e = absurd cc
+      go (some k) e = let z : r ≡ k = cc in ap some (sym z)
 
-module _ (d : Dict) (x : ℕ) (c : Count) (e : said_count c ≡ or_broken (rank_of d x)) where
-  pub pred_broken : c ≡ count.Broken → said_found found.Broken ≡ pred_of d x
-  unfolding said_found pred_of
-  pred_broken f = let q : rank_of d x ≡ none = rank_none (rank_of d x) (sym (ap said_count f) ∙ e) in rw (q, pred_of)
-
-  pub pred_is : (r : ℕ) (a : Found) → c ≡ count.Is r → said_found a ≡ select_of d r → said_found a ≡ pred_of d x
+  pub pred_broken : (y : Refusal) → said_number (Err y) ≡ or_broken (rank_of d x) → refused (refusal_of y) ≡ pred_of d x
   unfolding pred_of
-  pred_is r a f s = let q : rank_of d x ≡ some r = rank_some (rank_of d x) r (sym (ap said_count f) ∙ e) in s ∙ rw (q, pred_of)
+  pred_broken y e = let p = rank_none y e in p.1 ∙ (let q : rank_of d x ≡ none = p.0 in rw (q, pred_of))
 
-  pub succ_broken : c ≡ count.Broken → said_found found.Broken ≡ succ_of d x
-  unfolding said_found succ_of
-  succ_broken f = let q : rank_of d x ≡ none = rank_none (rank_of d x) (sym (ap said_count f) ∙ e) in rw (q, succ_of)
+  pub pred_is : (r : ℕ) → said_number (Ok r) ≡ or_broken (rank_of d x) → select_of d r ≡ pred_of d x
+  unfolding pred_of
+  pred_is r e = let q : rank_of d x ≡ some r = rank_some r e in rw (q, pred_of)
 
-  pub succ_is : (r : ℕ) (a : Found) → c ≡ count.Is r → said_found a ≡ succ_by d x r (select_of d r) → said_found a ≡ succ_of d x
+  pub succ_broken : (y : Refusal) → said_number (Err y) ≡ or_broken (rank_of d x) → refused (refusal_of y) ≡ succ_of d x
   unfolding succ_of
-  succ_is r a f s = let q : rank_of d x ≡ some r = rank_some (rank_of d x) r (sym (ap said_count f) ∙ e) in s ∙ rw (q, succ_of)
+  succ_broken y e = let p = rank_none y e in p.1 ∙ (let q : rank_of d x ≡ none = p.0 in rw (q, succ_of))
 
-module _ (d : Dict) (r : ℕ) where
-  pub next_over : 18446744073709551615 ≤ r → said_found found.Broken ≡ select_next d r
-  unfolding said_found select_next
-  next_over h = sym (if_false _ _ (le-ltb (suc r) (2 ^ 64) (omega arith)))
+  module _ (r : ℕ) (e : said_number (Ok r) ≡ or_broken (rank_of d x)) where
+    at : succ_by d x r (select_of d r) ≡ succ_of d x
+    unfolding succ_of
+    at = let q : rank_of d x ≡ some r = rank_some r e in rw (q, succ_of)
 
-  pub next_is : (a : Found) → r < 18446744073709551615 → said_found a ≡ select_of d (r + 1) → said_found a ≡ select_next d r
-  unfolding select_next
-  next_is a h s = s ∙ ap (select_of d) (add-one r) ∙ sym (if_true _ _ (lt-ltb (suc r) (2 ^ 64) (omega arith)))
+    pub succ_refused : (y : Refusal) → found_number (Err y) ≡ select_of d r → refused (refusal_of y) ≡ succ_of d x
+    unfolding succ_by
+    succ_refused y f = ap (succ_by d x r) f ∙ at
 
-module _ (d : Dict) (x r : ℕ) (c : Found) (e : said_found c ≡ select_of d r) where
-  pub by_broken : c ≡ found.Broken → said_found found.Broken ≡ succ_by d x r (select_of d r)
-  unfolding said_found succ_by
-  by_broken f = ap (succ_by d x r) (sym (ap said_found f) ∙ e)
+    pub succ_here : found_number (Ok (Some x)) ≡ select_of d r → is x ≡ succ_of d x
+    unfolding succ_by
+    succ_here f = sym (if_true _ _ (eq-eqb x x refl)) ∙ ap (succ_by d x r) f ∙ at
 
-  pub by_nothing : (a : Found) → c ≡ found.Nothing → said_found a ≡ select_next d r → said_found a ≡ succ_by d x r (select_of d r)
-  unfolding said_found succ_by
-  by_nothing a f s = s ∙ ap (succ_by d x r) (sym (ap said_found f) ∙ e)
+    pub succ_on : (o : rust.Option ℕ) → (o ≡ Some x → ⊥) → found_number (Ok o) ≡ select_of d r → select_next d r ≡ succ_of d x
+    unfolding succ_by
+    succ_on o h f = go o h f ∙ at
+      where
+        go : (o : rust.Option ℕ) → (o ≡ Some x → ⊥) → found_number (Ok o) ≡ select_of d r → select_next d r ≡ succ_by d x r (select_of d r)
+        go None h f = ap (succ_by d x r) f
+        go (Some i) h f = sym (if_false _ _ (ne_eqb i x (λ e. h (ap Some e)))) ∙ ap (succ_by d x r) f
 
-  pub by_here : (i : ℕ) → c ≡ found.At i → i ≡ x → said_found (found.At i) ≡ succ_by d x r (select_of d r)
-  unfolding said_found succ_by
-  by_here i f h = ap is h ∙ sym (if_true _ _ (eq-eqb i x h)) ∙ ap (succ_by d x r) (sym (ap said_found f) ∙ e)
+-- select of one more
+pub next_over : (d : Dict) (r : ℕ) → (r + 1 < 2 ^ 64 → ⊥) → refused broken ≡ select_next d r
+unfolding select_next
+next_over d r h = sym (if_false _ _ (le-ltb (suc r) (2 ^ 64) (omega arith)))
 
-  pub by_next : (i : ℕ) (a : Found) → c ≡ found.At i → (i ≡ x → ⊥) → said_found a ≡ select_next d r → said_found a ≡ succ_by d x r (select_of d r)
-  unfolding said_found succ_by
-  by_next i a f h s = s ∙ sym (if_false _ _ (ne_eqb i x h)) ∙ ap (succ_by d x r) (sym (ap said_found f) ∙ e)
+pub next_is : (d : Dict) (r m : ℕ) → (r + 1 < 2 ^ 64) × (m ≡ r + 1) → select_of d m ≡ select_next d r
+unfolding select_next
+next_is d r m h = ap (select_of d) (h.1 ∙ add-one r) ∙ sym (if_true _ _ (lt-ltb (suc r) (2 ^ 64) (omega arith)))

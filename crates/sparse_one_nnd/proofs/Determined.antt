@@ -30,14 +30,14 @@ use Rattle.sparse_one_nnd.proofs.SparseOneNnd.write.Reads as write
 use Rattle.sparse_one_nnd.proofs.SparseOneNnd.write.Kinds as write_kinds
 use Rattle.sparse_one_nnd.proofs.SparseOneNnd.build.Reads as build
 use Rattle.sparse_one_nnd.proofs.SparseOneNnd.build.Kinds as build_kinds
-use Rattle.sparse_one_nnd.proofs.rank.rank.Reads as rank
-use Rattle.sparse_one_nnd.proofs.rank.rank.Kinds as rank_kinds
-use Rattle.sparse_one_nnd.proofs.select.select.Reads as select
-use Rattle.sparse_one_nnd.proofs.select.select.Kinds as select_kinds
-use Rattle.sparse_one_nnd.proofs.select.pred.Reads as pred
-use Rattle.sparse_one_nnd.proofs.select.pred.Kinds as pred_kinds
-use Rattle.sparse_one_nnd.proofs.select.succ.Reads as succ
-use Rattle.sparse_one_nnd.proofs.select.succ.Kinds as succ_kinds
+use Rattle.sparse_one_nnd.proofs.DictAreas.rank.Reads as rank
+use Rattle.sparse_one_nnd.proofs.DictAreas.rank.Kinds as rank_kinds
+use Rattle.sparse_one_nnd.proofs.DictAreas.select.Reads as select
+use Rattle.sparse_one_nnd.proofs.DictAreas.select.Kinds as select_kinds
+use Rattle.sparse_one_nnd.proofs.DictAreas.pred.Reads as pred
+use Rattle.sparse_one_nnd.proofs.DictAreas.pred.Kinds as pred_kinds
+use Rattle.sparse_one_nnd.proofs.DictAreas.succ.Reads as succ
+use Rattle.sparse_one_nnd.proofs.DictAreas.succ.Kinds as succ_kinds
 
 pub empty_determined : Determined _ empty_kinds.ps empty_kinds.r empty.Asked empty.Learnt (Unit {0}) (λ κs e. tt)
 empty_determined = record { asks_nothing = λ κs a. tt; agree = λ κs a z z' e e' p q. (entries_agree z z' (p ∙ sym q), refl) }

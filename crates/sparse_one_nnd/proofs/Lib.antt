@@ -1,5 +1,6 @@
 pub mod Lists
 pub mod Ranks
+pub mod Replies
 pub mod Starts
 pub mod Seeks
 pub mod Selects

@@ -1,14 +1,16 @@
 -- The bytes and the entries from a place on.
-use mathlib.Core.Path.{◌≡◌, sym, ap, ◌∙◌}
+use mathlib.Core.Path.{◌≡◌, refl, sym, ap, ◌∙◌}
 use mathlib.Core.Bool.{false}
-use mathlib.Core.List.{List, ◌∷◌}
-use Prim.Native.Nat.{ℕ, ◌+◌, ◌*◌, ◌-◌, ◌/◌, ◌<◌}
+use mathlib.Core.List.{List, [], ◌∷◌}
+use Prim.Native.Nat.{ℕ, ◌+◌, ◌*◌, ◌-◌, ◌/◌, ◌≤◌, ◌<◌}
 use native.Mathlib.Numerals.{add-one}
 use native.Mathlib.Omega.{arith}
 use lib.Dec.{eqb}
-use lib.ListN.{length, get_or, drop, length-drop}
-use lib.Seq.{drop-cons}
+use lib.ListN.{length, get_or, take, drop, length-drop}
+use lib.Seq.{drop-cons, take_all}
 use borrow.Author.Tests.{ne_eqb}
+use Rattle.std.specs.Prelude.{◌⊎◌, slice_range}
+use Rattle.std.proofs.Common.{inl, inr}
 
 pub head : (B : List ℕ) (i : ℕ) → i < length B → drop i B ≡ get_or B i 0 ∷ drop (i + 1) B
 head B i h = drop-cons B i 0 h ∙ ap (λ (k : ℕ). get_or B i 0 ∷ drop k B) (sym (add-one i))
@@ -33,3 +35,18 @@ module _ (b m l : ℕ) where
 
   pub middles_there : (m ≡ 0 → ⊥) → false ≡ eqb (b + m + l) 0
   middles_there h = sym (ne_eqb (b + m + l) 0 (λ e. h (omega arith)))
+
+-- all past a place
+pub past_rest : (a : List ℕ) (n : ℕ) → take (length a - n) (drop n a) ≡ drop n a
+past_rest a n = take_all (length a - n) (drop n a) (omega (arith, length-drop n a))
+
+pub past_length : (n : ℕ) (bs : List ℕ) → (length bs < n) ⊎ (length bs < length bs) → length bs < n
+past_length n bs = elim [ inl h ↦ h | inr h ↦ absurd (omega arith) ]
+
+-- what is left of a block's bytes is shorter
+pub shorter : (rest bs l : List ℕ) (a n : ℕ) → rest ≡ a ∷ bs → n ≤ length bs → l ≡ slice_range bs n (length bs) → length l < length rest
+shorter rest bs l a n p h e = omega (arith, ap length p, ap length (e ∙ past_rest bs n), length-drop n bs)
+
+pub none_left : (l : List ℕ) → length l ≡ 0 → l ≡ []
+none_left [] h = refl
+none_left (x ∷ l) h = absurd (omega arith)

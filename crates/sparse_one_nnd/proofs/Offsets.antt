@@ -1,35 +1,27 @@
 -- The offsets of a block, one after another.
 use mathlib.Core.Path.{◌≡◌, refl, sym, ap, ap₂, ◌∙◌, subst}
-use mathlib.Core.Bool.{Bool, true, false, not}
+use mathlib.Core.Bool.{Bool, true, false}
 use mathlib.Core.List.{List, [], ◌∷◌, ◌++◌, append_assoc, append-nil}
 use Prim.Native.Nat.{ℕ, suc, ◌+◌, ◌*◌, ◌-◌, ◌≤◌, ◌<◌}
 use native.Mathlib.Omega.{arith}
-use lib.Dec.{T}
 use lib.ListN.{length, get_or, set, drop, length-append, length-drop}
 use lib.Seq.{sets, length-sets, drop-drop}
 use borrow.Author.Tests.{le-leb}
-use Rattle.meaning.specs.Answers.{Answer, provided}
+use Rattle.meaning.specs.Answers.{Answer, is, provided}
 use Rattle.meaning.specs.Bits.{opens, places, bits_of}
 use Rattle.meaning.specs.Plain.{side, item, plain_succ}
 use Rattle.meaning.specs.BitString.{held, if_held, before_end, string_succ, Met, met_at, one_from}
 use Rattle.meaning.proofs.Rank.{length_places}
 use Rattle.meaning.proofs.Stored.{length_bits}
-use Rattle.bit_string.specs.Said.{said_step}
-use Rattle.bit_string.specs.Indices.{goes_on, answer, moved}
-use Rattle.bit_string.specs.declared.Cursor.{Cursor}
+use Rattle.std.specs.Prelude as rust
+use Rattle.std.specs.Prelude.{None, Some, Result, Ok, Err}
+use Rattle.std.specs.Result.{result_unwrap_or}
+use Rattle.refusal.specs.declared.Refusal.{Refusal}
+use Rattle.refusal.specs.Said.{found_number}
+use Rattle.bit_string.specs.Indices.{place_of, goes_on, answer, met, moved}
 use Rattle.bit_string.specs.declared.one_indices.OneIndices.{OneIndices}
-use Rattle.bit_string.specs.declared.Step.{Step}
-use Rattle.bit_string.specs.declared.Step.TheVariants as step
-use Rattle.sparse_one_nnd.specs.Offsets.{met_one, offset_put, OffsetFits, OffsetsFit}
+use Rattle.sparse_one_nnd.specs.Offsets.{OffsetsFit}
 use Rattle.meaning.proofs.Runs.{sets_more}
-
--- an offset, of a step that met a one
-module _ (B : List ℕ) (at : ℕ) (s : Step) (j : ℕ) (d : Cursor) (e : s ≡ step.One j d) where
-  pub offset_fits : OffsetFits B at (said_step s) → (j < 256) × (at < length B)
-  offset_fits f = subst (λ (t : Step). OffsetFits B at (said_step t)) e f
-
-  pub offset_put_lem : (v : ℕ) → v ≡ j → (true ≡ met_one (said_step s)) × (set B at v ≡ offset_put B at (said_step s))
-  offset_put_lem v f = (ap (λ (t : Step). met_one (said_step t)) (sym e), ap (set B at) f ∙ ap (λ (t : Step). offset_put B at (said_step t)) (sym e))
 
 -- behind the first one
 next_place : (p : ℕ) (l : List Bool) (j : ℕ) (r : List ℕ) → places p l ≡ j ∷ r → (r ≡ places (suc j) (drop (suc j - p) l)) × ((p ≤ j) × (j < p + length l))
@@ -96,58 +88,66 @@ module _ (ws : List ℕ) (k at : ℕ) (B₀ B : List ℕ) (next p : ℕ) (f : Of
           within = omega (arith, before_end_lem);
         }
 
-  -- there is room for what it meets
-  fits_at : (r : List ℕ) → places p (drop p (bits_of ws k)) ≡ r → OffsetFits B next (met_at (item 0 r))
+  -- a one at j is met: there is room for it, and it is written
+  abbrev pub OneMet : ℕ → Answer Met → Type 0
+  OneMet j a = ((j < 256) × (next < length B)) × (Offsets ws k at B₀ (set B next j) (next + 1) (goes_on a p) × (k - goes_on a p < k - p))
+
+  on_at : (j : ℕ) (r : List ℕ) → places p (drop p (bits_of ws k)) ≡ r → is j ≡ place_of (met_at (item 0 r)) → OneMet j (met_at (item 0 r))
   unfolding met_at item
-  fits_at [] e = tt
-  fits_at (j ∷ r) e = (omega (arith, before_end_lem j r e, f.small), omega (arith, room_for j r e, off_length))
+  on_at j [] e y = absurd cc
+  on_at j (i ∷ r) e y =
+      let q : j ≡ i = cc in (
+        (omega (arith, before_end_lem i r e, f.small), omega (arith, room_for i r e, off_length)),
+        (subst (λ (j : ℕ). Offsets ws k at B₀ (set B next j) (next + 1) (suc i)) (sym q) (on_one i r e), omega (arith, before_end_lem i r e, (behind i r e).1.0)),
+      )
 
-  pub off_fits : OffsetFits B next (one_from ws k p)
-  off_fits = subst (OffsetFits B next) (sym step_is) (fits_at (places p (drop p (bits_of ws k))) refl)
-
-  -- a one is met, and written
-  abbrev pub On : Answer Met → Type 0
-  On a = (Offsets ws k at B₀ (offset_put B next a) (next + 1) (goes_on a p) × (k - goes_on a p < k - p)) × (next + 1 ≤ length B₀)
-
-  on_at : (r : List ℕ) → places p (drop p (bits_of ws k)) ≡ r → T (met_one (met_at (item 0 r))) → On (met_at (item 0 r))
-  unfolding met_at item
-  on_at [] e y = absurd y
-  on_at (j ∷ r) e y = ((on_one j r e, omega (arith, before_end_lem j r e, (behind j r e).1.0)), omega (arith, room_for j r e))
-
-  pub off_on : T (met_one (one_from ws k p)) → On (one_from ws k p)
-  off_on = subst (λ (a : Answer Met). T (met_one a) → On a) (sym step_is) (on_at (places p (drop p (bits_of ws k))) refl)
+  pub off_on : (j : ℕ) → is j ≡ place_of (one_from ws k p) → OneMet j (one_from ws k p)
+  off_on j = subst (λ (a : Answer Met). is j ≡ place_of a → OneMet j a) (sym step_is) (on_at j (places p (drop p (bits_of ws k))) refl)
 
   -- no one is left
-  end_at : (r : List ℕ) → places p (drop p (bits_of ws k)) ≡ r → T (not (met_one (met_at (item 0 r)))) → offset_put B next (met_at (item 0 r)) ≡ sets B₀ at (places 0 (bits_of ws k))
+  end_at : (r : List ℕ) → places p (drop p (bits_of ws k)) ≡ r → ((j : ℕ) → is j ≡ place_of (met_at (item 0 r)) → ⊥) → B ≡ sets B₀ at (places 0 (bits_of ws k))
   unfolding met_at item
   end_at [] e y = o.content ∙ ap (sets B₀ at) (sym (o.split ∙ ap (λ (l : List ℕ). o.done ++ l) e ∙ append-nil o.done))
-  end_at (j ∷ r) e y = absurd y
+  end_at (j ∷ r) e y = absurd (y j refl)
 
-  pub off_end : T (not (met_one (one_from ws k p))) → offset_put B next (one_from ws k p) ≡ sets B₀ at (places 0 (bits_of ws k))
+  pub off_end : ((j : ℕ) → is j ≡ place_of (one_from ws k p) → ⊥) → B ≡ sets B₀ at (places 0 (bits_of ws k))
   off_end =
-      subst (λ (a : Answer Met). T (not (met_one a)) → offset_put B next a ≡ sets B₀ at (places 0 (bits_of ws k))) (sym step_is)
+      subst (λ (a : Answer Met). ((j : ℕ) → is j ≡ place_of a → ⊥) → B ≡ sets B₀ at (places 0 (bits_of ws k))) (sym step_is)
       (end_at (places p (drop p (bits_of ws k))) refl)
 
 -- the same, with the struct that steps
 pub record Going (ws : List ℕ) (k at : ℕ) (B₀ B : List ℕ) (it : OneIndices) (next : ℕ) : Type 0 where
-  pub words : it.words.now ≡ ws
-  pub len : it.len ≡ k
+  pub words : it.string.words.now ≡ ws
+  pub len : it.string.len ≡ k
   pub offsets : Offsets ws k at B₀ B next it.next
 
 module _ (ws : List ℕ) (k at : ℕ) (B₀ B : List ℕ) (it : OneIndices) (next : ℕ) (f : OffsetsFit ws B₀ k at) (g : Going ws k at B₀ B it next) where
   answers : answer it ≡ one_from ws k it.next
   answers = ap₂ (λ (w : List ℕ) (n : ℕ). one_from w n it.next) g.words g.len
 
-  pub going_fits : OffsetFits B next (answer it)
-  going_fits = subst (OffsetFits B next) (sym answers) (off_fits ws k at B₀ B next it.next f g.offsets)
+  -- after a step to the one at j
+  module _ (j : ℕ) (r : Result (rust.Option ℕ) Refusal) (h : found_number r ≡ met it) (e : Some j ≡ result_unwrap_or r None) where
+    one : is j ≡ met it
+    one = go r h e
+      where
+        go : (r : Result (rust.Option ℕ) Refusal) → found_number r ≡ met it → Some j ≡ result_unwrap_or r None → is j ≡ met it
+        go (Ok (Some i)) h e = let q : j ≡ i = cc in ap is q ∙ h
+        go (Ok None) h e = absurd cc
+        go (Err y) h e = absurd cc
 
-  pub going_on : T (met_one (answer it))
-      → (Going ws k at B₀ (offset_put B next (answer it)) (moved it) (next + 1) × (k - (moved it).next < k - it.next)) × (next + 1 ≤ length B₀)
-  going_on y =
-      let w = subst (λ (a : Answer Met). T (met_one a) → On ws k at B₀ B next it.next f g.offsets a) (sym answers) (off_on ws k at B₀ B next it.next f g.offsets) y in
-      ((record { words = g.words; len = g.len; offsets = w.0.0 }, w.0.1), w.1)
+    pub going_on : ((j < 256) × (next < length B)) × (Going ws k at B₀ (set B next j) (moved it) (next + 1) × (k - (moved it).next < k - it.next))
+    going_on =
+        let w = subst (λ (a : Answer Met). is j ≡ place_of a → OneMet ws k at B₀ B next it.next f g.offsets j a) (sym answers) (off_on ws k at B₀ B next it.next f g.offsets j) one in
+        (w.0, (record { words = g.words; len = g.len; offsets = w.1.0 }, w.1.1))
 
-  pub going_end : T (not (met_one (answer it))) → offset_put B next (answer it) ≡ sets B₀ at (places 0 (bits_of ws k))
-  going_end =
-      subst (λ (a : Answer Met). T (not (met_one a)) → offset_put B next a ≡ sets B₀ at (places 0 (bits_of ws k))) (sym answers)
-      (off_end ws k at B₀ B next it.next f g.offsets)
+    pub going_to : (it' : OneIndices) → it' ≡ moved it → Going ws k at B₀ (set B next j) it' (next + 1) × (k - it'.next < k - it.next)
+    going_to it' q = subst (λ (it' : OneIndices). Going ws k at B₀ (set B next j) it' (next + 1) × (k - it'.next < k - it.next)) (sym q) going_on.1
+
+  -- none is left
+  pub going_end : (r : Result (rust.Option ℕ) Refusal) → found_number r ≡ met it → None ≡ result_unwrap_or r None → B ≡ sets B₀ at (places 0 (bits_of ws k))
+  going_end r e h = off_end ws k at B₀ B next it.next f g.offsets (λ j q. go j r (e ∙ ap place_of answers ∙ sym q) h)
+    where
+      go : (j : ℕ) (r : Result (rust.Option ℕ) Refusal) → found_number r ≡ is j → None ≡ result_unwrap_or r None → ⊥
+      go j (Ok (Some i)) e h = absurd cc
+      go j (Ok None) e h = absurd cc
+      go j (Err y) e h = absurd cc

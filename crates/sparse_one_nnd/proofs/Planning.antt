@@ -17,7 +17,10 @@ use Rattle.meaning.specs.Direct.{most_bits}
 use Rattle.meaning.specs.Refusals.{full_block}
 use Rattle.meaning.proofs.If.{if_true, if_false}
 use Rattle.meaning.proofs.Stored.{length_bits}
-use Rattle.sparse_one_nnd.specs.Blocks.{last_of, Held, Counted, FullIs, ManyIs}
+use Rattle.meaning.proofs.Direct.{direct_broken, direct_many}
+use Rattle.meaning.proofs.Planned.{plan_broken, plan_many, plan_at_full, refused_full}
+use Rattle.refusal.specs.declared.Refusal.TheVariants.{Many, Full, Broken}
+use Rattle.sparse_one_nnd.specs.Blocks.{last_of, Held, Counted, Unplanned}
 use Rattle.sparse_one_nnd.proofs.Blocks.{next_drop, next_count, next_ones, opens_le}
 
 -- one block of the plan
@@ -65,9 +68,13 @@ module _ {ws : List ℕ} {n blocks ones b : ℕ} (p : Planning ws n blocks ones 
     pub plan_ones : c ≤ 256
     plan_ones = omega (arith, e, opens_le (take 256 (drop (256 * b) l)), length-take 256 (drop (256 * b) l))
 
-    pub plan_full : Held ws n → c ≡ 256 → FullIs ws n b
+    pub plan_full : Held ws n → c ≡ 256 → Unplanned ws n (Full 0 b)
     plan_full t f =
-        record { held = t; full = sym p.same ∙ full_here (n / 256 + 1 - b) b (drop (256 * b) l) (omega arith) (sym e ∙ f) }
+        let q : full_block (n / 256 + 1) 0 (bits_of ws n) ≡ some b = sym p.same ∙ full_here (n / 256 + 1 - b) b (drop (256 * b) l) (omega arith) (sym e ∙ f) in
+        record {
+          plan = plan_at_full ws n t.inside t.few b q;
+          write = λ rooms. refused_full ws n rooms b (record { inside = t.inside; few = t.few; full = q });
+        }
 
     pub plan_on : (k : ℕ) → (c ≡ 256 → ⊥) → k ≡ last_of c b blocks → Planning ws n k (ones + c) (b + 1)
     plan_on k f w =
@@ -93,12 +100,18 @@ module _ {ws : List ℕ} {n blocks ones b : ℕ} (p : Planning ws n blocks ones 
       }
 
 -- the tests before it
-module _ (ws : List ℕ) (n : ℕ) (t : Bool) (e : t ≡ leb n (64 * length ws)) where
-  pub past_words : t ≡ false → 64 * length ws < n
-  past_words f = leb-false n (64 * length ws) (sym e ∙ f)
+module _ (ws : List ℕ) (n : ℕ) where
+  pub past_words : false ≡ leb n (64 * length ws) → Unplanned ws n Broken
+  past_words f =
+      let h = leb-false n (64 * length ws) (sym f) in
+      record { plan = plan_broken ws n h; write = λ rooms. direct_broken ws n rooms h }
 
-  pub in_words : t ≡ true → n ≤ most_bits → Held ws n
-  in_words f h = record { inside = leb-true n (64 * length ws) (sym e ∙ f); few = h }
+  module _ (f : true ≡ leb n (64 * length ws)) where
+    inside : n ≤ 64 * length ws
+    inside = leb-true n (64 * length ws) (sym f)
 
-  pub too_many : t ≡ true → most_bits < n → ManyIs ws n n
-  too_many f h = record { inside = leb-true n (64 * length ws) (sym e ∙ f); many = h; same = refl }
+    pub in_words : n ≤ most_bits → Held ws n
+    in_words h = record { inside = inside; few = h }
+
+    pub too_many : most_bits < n → Unplanned ws n (Many n)
+    too_many h = record { plan = plan_many ws n inside h; write = λ rooms. direct_many ws n rooms inside h }

@@ -1,10 +1,10 @@
--- From the first pass to the plan, on each way.
-use mathlib.Core.Path.{◌≡◌, sym, ap, ◌∙◌, subst}
+-- From the first pass to the plan: how many entries.
+use mathlib.Core.Path.{◌≡◌, sym, ap, ◌∙◌}
 use mathlib.Core.List.{List}
 use Prim.Native.Nat.{ℕ, ◌+◌, ◌*◌, ◌/◌, ◌≤◌}
 use native.Mathlib.Omega.{arith}
 use lib.ListN.{length, take, drop, take-append-drop}
-use Rattle.meaning.specs.Answers.{is, refused}
+use Rattle.meaning.specs.Answers.{is}
 use Rattle.meaning.specs.Bits.{opens, bits_of}
 use Rattle.meaning.specs.Dictionary.{end_of, bytes_of, byte_pos, ones_to, block_count, dict_of, dict_with, middle_pos, middle_rank, large_pos, large_rank}
 use Rattle.meaning.specs.Direct.{entries_of, dict_plan}
@@ -12,13 +12,10 @@ use Rattle.meaning.proofs.Tab.{opens_append}
 use Rattle.meaning.proofs.Rank.{past_end, length_pair_up}
 use Rattle.meaning.proofs.Narrow.{bytes_ones, end_le}
 use Rattle.meaning.proofs.Stored.{length_bits}
-use Rattle.meaning.proofs.Planned.{plan_broken, plan_many, plan_at_full, plan_is}
+use Rattle.meaning.proofs.Planned.{plan_is}
 use Rattle.sparse_one_nnd.specs.declared.SparseOneNnd.{SparseOneNnd}
-use Rattle.sparse_one_nnd.specs.declared.Planned.TheVariants as planned
-use Rattle.sparse_one_nnd.specs.declared.first_pass.Pass.{Pass}
-use Rattle.sparse_one_nnd.specs.declared.first_pass.Pass.TheVariants as pass
-use Rattle.sparse_one_nnd.specs.Said.{entries_in, said_plan, many}
-use Rattle.sparse_one_nnd.specs.Blocks.{PassIs, Counted, FullIs, ManyIs, counts_of}
+use Rattle.sparse_one_nnd.specs.Said.{entries_in}
+use Rattle.sparse_one_nnd.specs.Blocks.{Counted, counts_of}
 use Rattle.sparse_one_nnd.proofs.Blocks.{opens_le}
 
 -- how many bytes and entries: a byte for each block and each one
@@ -79,28 +76,6 @@ module _ {ws : List ℕ} {n blocks ones : ℕ} (c : Counted ws n blocks ones) wh
   pub counts_few : (blocks ≤ 2097152) × (ones ≤ 2097152)
   counts_few = (omega (arith, counts_blocks, c.held.few), omega (arith, counts_ones, c.held.few))
 
-pub fits_few : (ws : List ℕ) (n : ℕ) (p : Pass) → PassIs ws n p → (blocks ones : ℕ) → p ≡ pass.Fits blocks ones → (blocks ≤ 2097152) × (ones ≤ 2097152)
-fits_few ws n p h blocks ones e = counts_few (subst (PassIs ws n) e h)
-
-module _ (ws : List ℕ) (n : ℕ) (p : Pass) (h : PassIs ws n p) where
-  pub said_broken : p ≡ pass.Broken → said_plan planned.Broken ≡ dict_plan ws n
-  unfolding said_plan
-  said_broken e = sym (plan_broken ws n (subst (PassIs ws n) e h))
-
-  pub said_many : (k : ℕ) → p ≡ pass.Many k → said_plan (planned.Many k) ≡ dict_plan ws n
-  unfolding said_plan
-  said_many k e =
-      let q : ManyIs ws n k = subst (PassIs ws n) e h in
-      ap (λ (m : ℕ). refused (many m)) q.same ∙ sym (plan_many ws n q.inside q.many)
-
-  pub said_full : (b : ℕ) → p ≡ pass.Full b → said_plan (planned.Full b) ≡ dict_plan ws n
-  unfolding said_plan
-  said_full b e =
-      let q : FullIs ws n b = subst (PassIs ws n) e h in
-      sym (plan_at_full ws n q.held.inside q.held.few b q.full)
-
-  pub said_fits : (blocks ones : ℕ) (c : SparseOneNnd) → p ≡ pass.Fits blocks ones → entries_in c ≡ counts_of blocks ones → said_plan (planned.Fits c) ≡ dict_plan ws n
-  unfolding said_plan
-  said_fits blocks ones c e f =
-      let q : Counted ws n blocks ones = subst (PassIs ws n) e h in
-      ap is (f ∙ counts_is q) ∙ sym (plan_is ws n q.held.inside q.held.few q.narrow)
+-- the plan
+pub plan_counted : {ws : List ℕ} {n blocks ones : ℕ} → Counted ws n blocks ones → (c : SparseOneNnd) → entries_in c ≡ counts_of blocks ones → is (entries_in c) ≡ dict_plan ws n
+plan_counted {ws} {n} q c f = ap is (f ∙ counts_is q) ∙ sym (plan_is ws n q.held.inside q.held.few q.narrow)

@@ -1,4 +1,4 @@
--- One step of the walk of rank, on each way, where a rank past 2^64 - 1 is BROKEN.
+-- One step of the walk of rank, on each way, where a rank past 2^64 - 1 is none.
 use mathlib.Core.Path.{◌≡◌, refl, sym, ap, ap₂, ◌∙◌}
 use mathlib.Core.Option.{Option, none, some}
 use mathlib.Core.List.{List, [], ◌∷◌}
@@ -8,29 +8,24 @@ use native.Mathlib.Nat.{not-suc-le-zero}
 use native.Mathlib.Numerals.{add-one}
 use native.Mathlib.Omega.{arith}
 use lib.ListN.{length, get_or, drop, drop_of_length-le}
-use lib.Seq.{drop-drop}
 use borrow.Author.Tests.{le-leb, lt-leb, lt-ltb, le-ltb}
-use Rattle.meaning.specs.Answers.{Answer, is, refused, broken, or_broken}
 use Rattle.meaning.specs.Dictionary.{leading, rank_walk, limit}
-use Rattle.sparse_one_nnd.specs.declared.Count.{Count}
-use Rattle.sparse_one_nnd.specs.declared.Count.TheVariants as count
-use Rattle.sparse_one_nnd.specs.Said.{said_count}
-use Rattle.sparse_one_nnd.specs.Start.{counted}
-use Rattle.sparse_one_nnd.proofs.Lists.{head, rest_length}
+use Rattle.std.specs.Prelude.{◌⊎◌, slice_range}
+use Rattle.sparse_one_nnd.proofs.Lists.{head, past_rest, past_length, none_left}
 
--- an answer within the bound, and one past it
-pub counted_is : (r : ℕ) → r < 2 ^ 64 → counted (some r) ≡ is r
-unfolding limit or_broken
-counted_is r h = rw (lt-ltb r (2 ^ 64) h, limit, or_broken)
+-- a count within the bound, and one past it
+pub limit_is : (r : ℕ) → r < 2 ^ 64 → limit (some r) ≡ some r
+unfolding limit
+limit_is r h = rw (lt-ltb r (2 ^ 64) h, limit)
 
-pub counted_none : (o : Option ℕ) → o ≡ none → counted o ≡ refused broken
-unfolding limit or_broken
-counted_none o e = rw (e, limit, or_broken)
+pub limit_none : (o : Option ℕ) → o ≡ none → limit o ≡ none
+unfolding limit
+limit_none o e = rw (e, limit)
 
-pub counted_over : (o : Option ℕ) → ((k : ℕ) → o ≡ some k → 2 ^ 64 ≤ k) → counted o ≡ refused broken
-unfolding limit or_broken
-counted_over none h = refl
-counted_over (some k) h = rw (le-ltb k (2 ^ 64) (h k refl), limit, or_broken)
+pub limit_over : (o : Option ℕ) → ((k : ℕ) → o ≡ some k → 2 ^ 64 ≤ k) → limit o ≡ none
+unfolding limit
+limit_over none h = refl
+limit_over (some k) h = rw (le-ltb k (2 ^ 64) (h k refl), limit)
 
 none_some : {o : Option ℕ} (k : ℕ) → o ≡ none → o ≡ some k → ⊥
 none_some k e f = let z : ◌≡◌ {A = ℕ} 0 1 = cc in omega arith
@@ -58,111 +53,107 @@ walk_le x (suc k) r (n ∷ bs) t e = go (dec_le n (length bs)) (walk_le x k (r +
     go (no h) ih = absurd (none_some t (sym (rw (lt-leb n (length bs) (omega arith), rank_walk) at e)) refl)
 
 -- "counts leading offsets up to its place": the loop, of which G is the answer
-pub record Counting (G : Answer ℕ) (x : ℕ) (B : List ℕ) (rank left i : ℕ) : Type 0 where
+pub record Counting (G : Option ℕ) (x n : ℕ) (B : List ℕ) (rank i : ℕ) : Type 0 where
   pub few : rank < 2 ^ 64
-  pub same : counted (leading x rank left (drop i B)) ≡ G
+  pub same : limit (leading x rank (n - i) (drop i B)) ≡ G
 
-pub count_start : (x r n i : ℕ) (B : List ℕ) → r < 2 ^ 64 → Counting (counted (leading x r n (drop i B))) x B r n i
-count_start x r n i B h = record { few = h; same = refl }
+pub count_start : (x r n : ℕ) (B : List ℕ) → r < 2 ^ 64 → Counting (limit (leading x r n B)) x n B r 0
+count_start x r n B h = let u : n - 0 ≡ n = omega arith in record { few = h; same = ap (λ (k : ℕ). limit (leading x r k B)) u }
 
-module _ {G : Answer ℕ} {x : ℕ} {B : List ℕ} {rank left i : ℕ} (s : Counting G x B rank left i) where
-  count_more : 0 < left → i < length B → get_or B i 0 ≤ x → leading x rank left (drop i B) ≡ leading x (rank + 1) (left - 1) (drop (i + 1) B)
+module _ {G : Option ℕ} {x n : ℕ} {B : List ℕ} {rank i : ℕ} (s : Counting G x n B rank i) where
+  pub count_end : n ≤ i → some rank ≡ G
   unfolding leading
-  count_more h k o = go left h
+  count_end h = sym (limit_is rank s.few) ∙ ap limit (sym (go (n - i) (omega arith))) ∙ s.same
     where
-      go : (n : ℕ) → 0 < n → leading x rank n (drop i B) ≡ leading x (rank + 1) (n - 1) (drop (i + 1) B)
-      go zero h = absurd (not-suc-le-zero h)
-      go (suc n) h =
-          let u : n ≡ suc n - 1 = omega arith in
-          rw (head B i k, leading, le-leb _ _ o) (ap₂ (λ (t j : ℕ). leading x t j (drop (i + 1) B)) (sym (add-one rank)) u)
-
-  pub count_end : left ≤ 0 → said_count (count.Is rank) ≡ G
-  unfolding said_count leading
-  count_end h = sym (counted_is rank s.few) ∙ ap counted (sym (go left h)) ∙ s.same
-    where
-      go : (n : ℕ) → n ≤ 0 → leading x rank n (drop i B) ≡ some rank
+      go : (k : ℕ) → k ≤ 0 → leading x rank k (drop i B) ≡ some rank
       go zero h = refl
-      go (suc n) h = absurd (not-suc-le-zero h)
+      go (suc k) h = absurd (not-suc-le-zero h)
 
-  pub count_out : 0 < left → length B ≤ i → said_count count.Broken ≡ G
-  unfolding said_count leading
-  count_out h k = sym (counted_none _ (go left h)) ∙ s.same
+  pub count_out : i < n → length B ≤ i → none ≡ G
+  unfolding leading
+  count_out h k = sym (limit_none _ (go (n - i) (omega arith))) ∙ s.same
     where
-      go : (n : ℕ) → 0 < n → leading x rank n (drop i B) ≡ none
+      go : (t : ℕ) → 0 < t → leading x rank t (drop i B) ≡ none
       go zero h = absurd (not-suc-le-zero h)
-      go (suc n) h = rw (drop_of_length-le B k, leading)
+      go (suc t) h = rw (drop_of_length-le B k, leading)
 
-  pub count_stop : (o : ℕ) → o ≡ get_or B i 0 → 0 < left → i < length B → x < o → said_count (count.Is rank) ≡ G
-  unfolding said_count leading
-  count_stop o e h k t = sym (counted_is rank s.few) ∙ ap counted (sym (go left h)) ∙ s.same
-    where
-      go : (n : ℕ) → 0 < n → leading x rank n (drop i B) ≡ some rank
-      go zero h = absurd (not-suc-le-zero h)
-      go (suc n) h = rw (head B i k, leading, lt-leb (get_or B i 0) x (omega arith))
+  module _ (o : ℕ) (e : o ≡ get_or B i 0) (h : i < n) (k : i < length B) where
+    pub count_stop : x < o → some rank ≡ G
+    unfolding leading
+    count_stop t = sym (limit_is rank s.few) ∙ ap limit (sym (go (n - i) (omega arith))) ∙ s.same
+      where
+        go : (j : ℕ) → 0 < j → leading x rank j (drop i B) ≡ some rank
+        go zero h = absurd (not-suc-le-zero h)
+        go (suc j) h = rw (head B i k, leading, lt-leb (get_or B i 0) x (omega arith))
 
-  pub count_over : (o : ℕ) → o ≡ get_or B i 0 → 0 < left → i < length B → o ≤ x → 18446744073709551615 ≤ rank → said_count count.Broken ≡ G
-  unfolding said_count leading
-  count_over o e h k t u =
-      sym (ap counted (count_more h k (omega arith))
-      ∙ counted_over _ (λ m f. omega (arith, leading_le x (rank + 1) (left - 1) (drop (i + 1) B) m f)))
-      ∙ s.same
+    module _ (t : o ≤ x) where
+      more : leading x rank (n - i) (drop i B) ≡ leading x (rank + 1) (n - (i + 1)) (drop (i + 1) B)
+      unfolding leading
+      more = go (n - i) (n - (i + 1)) (omega arith)
+        where
+          go : (m j : ℕ) → m ≡ suc j → leading x rank m (drop i B) ≡ leading x (rank + 1) j (drop (i + 1) B)
+          go m j u = rw (u, head B i k, leading, le-leb (get_or B i 0) x (omega arith)) (ap (λ (r : ℕ). leading x r j (drop (i + 1) B)) (sym (add-one rank)))
 
-  pub count_on : (o : ℕ) → o ≡ get_or B i 0 → 0 < left → i < length B → o ≤ x → rank < 18446744073709551615 → Counting G x B (rank + 1) (left - 1) (i + 1)
-  count_on o e h k t u = record { few = omega arith; same = sym (ap counted (count_more h k (omega arith))) ∙ s.same }
+      pub count_over : 2 ^ 64 ≤ rank + 1 → none ≡ G
+      count_over u =
+          sym (ap limit more ∙ limit_over _ (λ m f. omega (arith, leading_le x (rank + 1) (n - (i + 1)) (drop (i + 1) B) m f))) ∙ s.same
+
+      pub count_on : (r : ℕ) → (rank + 1 < 2 ^ 64) × (r ≡ rank + 1) → Counting G x n B r (i + 1)
+      count_on r u =
+          record {
+            few = omega arith;
+            same = ap (λ (r : ℕ). limit (leading x r (n - (i + 1)) (drop (i + 1) B))) u.1 ∙ sym (ap limit more) ∙ s.same;
+          }
 
 -- "walks the blocks": the loop
-pub record Walking (G : Answer ℕ) (x : ℕ) (B : List ℕ) (left rank i : ℕ) : Type 0 where
+pub record Walking (G : Option ℕ) (x : ℕ) (rest : List ℕ) (left rank : ℕ) : Type 0 where
   pub few : rank < 2 ^ 64
-  pub same : counted (rank_walk x left rank (drop i B)) ≡ G
+  pub same : limit (rank_walk x left rank rest) ≡ G
 
-pub walk_start : (x k r i : ℕ) (B : List ℕ) → r < 2 ^ 64 → Walking (counted (rank_walk x k r (drop i B))) x B k r i
-walk_start x k r i B h = record { few = h; same = refl }
+pub walk_start : (x k r : ℕ) (B : List ℕ) → r < 2 ^ 64 → Walking (limit (rank_walk x k r B)) x B k r
+walk_start x k r B h = record { few = h; same = refl }
 
-module _ {G : Answer ℕ} {x : ℕ} {B : List ℕ} {left rank i : ℕ} (s : Walking G x B left rank i) where
-  walk_more : (n : ℕ) → n ≡ get_or B i 0 → i < length B → (left ≡ 0 → ⊥) → n < length B - i
-      → rank_walk x left rank (drop i B) ≡ rank_walk x (left - 1) (rank + n) (drop (i + 1 + n) B)
+pub walk_end : {G : Option ℕ} {x left rank : ℕ} {rest : List ℕ} → Walking G x rest left rank → length rest ≡ 0 → some rank ≡ G
+unfolding rank_walk
+walk_end {G} {x} {left} {rank} {rest} s h = sym (limit_is rank s.few) ∙ ap limit (sym (go left)) ∙ ap (λ (bs : List ℕ). limit (rank_walk x left rank bs)) (sym (none_left rest h)) ∙ s.same
+  where
+    go : (k : ℕ) → rank_walk x k rank [] ≡ some rank
+    go zero = refl
+    go (suc k) = refl
+
+-- at a block of n ones
+module _ {G : Option ℕ} {x left rank : ℕ} {rest : List ℕ} (s : Walking G x rest left rank) (n a : ℕ) (bs : List ℕ) (f : n ≡ a) (p : rest ≡ a ∷ bs) where
+  at : limit (rank_walk x left rank (n ∷ bs)) ≡ G
+  at = ap (λ (l : List ℕ). limit (rank_walk x left rank l)) (ap (λ (k : ℕ). k ∷ bs) f ∙ sym p) ∙ s.same
+
+  pub walk_in : left ≡ 0 → limit (leading x rank n bs) ≡ G
   unfolding rank_walk
-  walk_more n w h e t = go left e
-    where
-      go : (k : ℕ) → (k ≡ 0 → ⊥) → rank_walk x k rank (drop i B) ≡ rank_walk x (k - 1) (rank + n) (drop (i + 1 + n) B)
-      go zero e = absurd (e refl)
-      go (suc k) e =
-          let u : k ≡ suc k - 1 = omega arith in
-          rw (w, head B i h, rank_walk, le-leb (get_or B i 0) (length (drop (i + 1) B)) (omega (arith, rest_length B i)))
-          (ap₂ (λ j b. rank_walk x j (rank + get_or B i 0) b) u (drop-drop (get_or B i 0) (i + 1) B))
+  walk_in e = ap (λ (k : ℕ). limit (rank_walk x k rank (n ∷ bs))) (sym e) ∙ at
 
-  pub walk_end : length B ≤ i → said_count (count.Is rank) ≡ G
-  unfolding said_count rank_walk
-  walk_end h = sym (counted_is rank s.few) ∙ ap counted (sym (go left)) ∙ s.same
-    where
-      go : (k : ℕ) → rank_walk x k rank (drop i B) ≡ some rank
-      go zero = rw (drop_of_length-le B h, rank_walk)
-      go (suc k) = rw (drop_of_length-le B h, rank_walk)
+  module _ (e : left ≡ 0 → ⊥) where
+    pub walk_out : (length bs < n) ⊎ (length bs < length bs) → none ≡ G
+    unfolding rank_walk
+    walk_out t = sym (limit_none _ (go left e)) ∙ at
+      where
+        go : (k : ℕ) → (k ≡ 0 → ⊥) → rank_walk x k rank (n ∷ bs) ≡ none
+        go zero e = absurd (e refl)
+        go (suc k) e = rw (rank_walk, lt-leb n (length bs) (past_length n bs t))
 
-  pub walk_in : (n : ℕ) (a : Count) → n ≡ get_or B i 0 → i < length B → left ≡ 0
-      → said_count a ≡ counted (leading x rank n (drop (i + 1) B)) → said_count a ≡ G
-  unfolding rank_walk
-  walk_in n a w h e f = f ∙ ap counted (sym (go left e)) ∙ s.same
-    where
-      go : (k : ℕ) → k ≡ 0 → rank_walk x k rank (drop i B) ≡ leading x rank n (drop (i + 1) B)
-      go zero e = rw (head B i h, w)
-      go (suc k) e = absurd (omega arith)
+    module _ (t : n ≤ length bs) where
+      passed : rank_walk x left rank (n ∷ bs) ≡ rank_walk x (left - 1) (rank + n) (drop n bs)
+      unfolding rank_walk
+      passed = go left e
+        where
+          go : (k : ℕ) → (k ≡ 0 → ⊥) → rank_walk x k rank (n ∷ bs) ≡ rank_walk x (k - 1) (rank + n) (drop n bs)
+          go zero e = absurd (e refl)
+          go (suc k) e = let u : k ≡ suc k - 1 = omega arith in rw (rank_walk, le-leb n (length bs) t) (ap (λ (j : ℕ). rank_walk x j (rank + n) (drop n bs)) u)
 
-  pub walk_out : (n : ℕ) → n ≡ get_or B i 0 → i < length B → (left ≡ 0 → ⊥) → length B - i ≤ n → said_count count.Broken ≡ G
-  unfolding said_count rank_walk
-  walk_out n w h e t = sym (counted_none _ (go left e)) ∙ s.same
-    where
-      go : (k : ℕ) → (k ≡ 0 → ⊥) → rank_walk x k rank (drop i B) ≡ none
-      go zero e = absurd (e refl)
-      go (suc k) e = rw (head B i h, rank_walk, lt-leb (get_or B i 0) (length (drop (i + 1) B)) (omega (arith, rest_length B i)))
+      pub walk_over : 2 ^ 64 ≤ rank + n → none ≡ G
+      walk_over u = sym (ap limit passed ∙ limit_over _ (λ m f. omega (arith, walk_le x (left - 1) (rank + n) (drop n bs) m f))) ∙ at
 
-  pub walk_over : (n : ℕ) → n ≡ get_or B i 0 → i < length B → (left ≡ 0 → ⊥) → n < length B - i → 18446744073709551615 - rank < n → said_count count.Broken ≡ G
-  unfolding said_count rank_walk
-  walk_over n w h e t u =
-      sym (ap counted (walk_more n w h e t)
-      ∙ counted_over _ (λ m f. omega (arith, walk_le x (left - 1) (rank + n) (drop (i + 1 + n) B) m f)))
-      ∙ s.same
-
-  pub walk_on : (n : ℕ) → n ≡ get_or B i 0 → i < length B → (left ≡ 0 → ⊥) → n < length B - i → n ≤ 18446744073709551615 - rank
-      → Walking G x B (left - 1) (rank + n) (i + 1 + n)
-  walk_on n w h e t u = record { few = omega (arith, s.few); same = sym (ap counted (walk_more n w h e t)) ∙ s.same }
+      pub walk_on : (r : ℕ) (l : List ℕ) → (rank + n < 2 ^ 64) × (r ≡ rank + n) → l ≡ slice_range bs n (length bs) → Walking G x l (left - 1) r
+      walk_on r l u v =
+          record {
+            few = omega arith;
+            same = ap₂ (λ (r : ℕ) (l : List ℕ). limit (rank_walk x (left - 1) r l)) u.1 (v ∙ past_rest bs n) ∙ sym (ap limit passed) ∙ at;
+          }

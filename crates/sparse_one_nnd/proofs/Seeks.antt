@@ -1,7 +1,7 @@
 -- "the entry before the first whose rank exceeds r - 1": the loop over the entries, at any width.
 use mathlib.Core.Path.{◌≡◌, refl, sym, ap, ◌∙◌}
 use mathlib.Core.List.{List, [], ◌∷◌}
-use Prim.Native.Nat.{ℕ, suc, pred, ◌+◌, ◌*◌, ◌-◌, ◌/◌, ◌≤◌, ◌<◌}
+use Prim.Native.Nat.{ℕ, suc, pred, min, ◌+◌, ◌*◌, ◌-◌, ◌/◌, ◌≤◌, ◌<◌}
 use native.Mathlib.Decide.{dec_lt}
 use native.Mathlib.Omega.{arith}
 use lib.ListN.{length, get_or, take, drop, length-drop}
@@ -9,7 +9,9 @@ use lib.Seq.{take_all}
 use borrow.Author.Tests.{lt-ltb, le-ltb}
 use Rattle.meaning.specs.Dictionary.{before}
 use Rattle.meaning.proofs.If.{if_true, if_false}
-use Rattle.sparse_one_nnd.proofs.Lists.{two}
+use Rattle.std.specs.Prelude.{map}
+use Rattle.std.proofs.lemmas.List.{map-id, length-map, get_or-map}
+use Rattle.sparse_one_nnd.proofs.Lists.{two, past_rest}
 
 pub record Seeking (q : ℕ) (E : List ℕ) (i : ℕ) : Type 0 where
   pub within : i ≤ length E / 2
@@ -54,18 +56,26 @@ before_less b r (p ∷ k ∷ E) h = go (dec_lt (b + k) r) (before_less b r E h)
     go (yes t) ih = if_true _ _ (lt-ltb (b + k) r t) ∙ ap suc ih ∙ sym (if_true _ _ (lt-ltb (0 + k) (r - b) (omega arith)))
     go (no t) ih = if_false _ _ (le-ltb (b + k) r (omega arith)) ∙ sym (if_false _ _ (le-ltb (0 + k) (r - b) (omega arith)))
 
--- the middle entry, found in what is left of the slice, or in 64 elements of it
-module _ (M : List ℕ) (g q n p : ℕ) where
-  pub middle_rest : length M - 64 * g ≤ 64 → n ≡ before 0 q (take (length M - 64 * g) (drop (64 * g) M)) → p ≡ pred n
-      → 32 * g + p ≡ 32 * g + pred (before 0 q (take 64 (drop (64 * g) M)))
-  middle_rest h e f =
-      let d : length (drop (64 * g) M) ≡ length M - 64 * g = length-drop (64 * g) M in
-      let u : take (length M - 64 * g) (drop (64 * g) M) ≡ take 64 (drop (64 * g) M) =
-      take_all (length M - 64 * g) (drop (64 * g) M) (omega arith) ∙ sym (take_all 64 (drop (64 * g) M) (omega arith)) in
-      ap (λ (k : ℕ). 32 * g + k) (f ∙ ap pred (e ∙ ap (before 0 q) u))
+-- the middle entry, found in the 64 numbers of large entry g, or what there are of them
+pub middle_is : (M R : List ℕ) (g q n k p : ℕ) → R ≡ take (length M - 64 * g) (drop (64 * g) M) → k ≡ min (length R) 64 → n ≡ before 0 q (map (λ x. x) (take k R)) → p ≡ n - 1
+    → 32 * g + p ≡ 32 * g + pred (before 0 q (take 64 (drop (64 * g) M)))
+middle_is M R g q n k p r f e h =
+    ap (λ (k : ℕ). 32 * g + k) (h ∙ ap (λ (n : ℕ). n - 1) (e ∙ ap (before 0 q) (map-id (take k R) ∙ front ∙ ap (take 64) (r ∙ past_rest M (64 * g)))) ∙ less (before 0 q (take 64 (drop (64 * g) M))))
+  where
+    front : take k R ≡ take 64 R
+    front = go (dec_lt (length R) 64)
+      where
+        go : Dec (length R < 64) → take k R ≡ take 64 R
+        go (yes t) = take_all k R (omega arith) ∙ sym (take_all 64 R (omega arith))
+        go (no t) = let u : k ≡ 64 = omega arith in ap (λ (k : ℕ). take k R) u
 
-  pub middle_whole : 64 < length M - 64 * g → n ≡ before 0 q (take (64 * g + 64 - 64 * g) (drop (64 * g) M)) → p ≡ pred n
-      → 32 * g + p ≡ 32 * g + pred (before 0 q (take 64 (drop (64 * g) M)))
-  middle_whole h e f =
-      let u : 64 * g + 64 - 64 * g ≡ 64 = omega arith in
-      ap (λ (k : ℕ). 32 * g + k) (f ∙ ap pred (e ∙ ap (λ (k : ℕ). before 0 q (take k (drop (64 * g) M))) u))
+    less : (n : ℕ) → n - 1 ≡ pred n
+    less n = omega arith
+
+-- at elements of any type, by their numbers
+module _ {A : Type 0} (f : A → ℕ) (E : List A) where
+  pub item_number : (i k : ℕ) (x : A) → i < length E / 2 → x ≡ get_or E (2 * i + 1) x → k ≡ f x → k ≡ get_or (map f E) (2 * i + 1) 0
+  item_number i k x h u e = e ∙ ap f u ∙ sym (get_or-map f E (2 * i + 1) x 0 (omega arith))
+
+  pub as_many : length (map f E) / 2 ≡ length E / 2
+  as_many = ap (λ (n : ℕ). n / 2) (length-map E f)

@@ -4,24 +4,44 @@ use mathlib.Core.Bool.{Bool, true, false, ◌&&◌}
 use mathlib.Core.Option.{Option, none, some}
 use mathlib.Core.List.{List, [], ◌∷◌}
 use Prim.Native.Nat.{ℕ, ◌+◌, ◌*◌, ◌-◌, ◌/◌, ◌%◌, ◌^◌, ◌≤◌, ◌<◌}
-use native.Mathlib.Decide.{dec_lt}
+use native.Mathlib.Decide.{dec_lt, dec_le}
 use native.Mathlib.Omega.{arith}
 use lib.Dec.{leb, ltb}
 use lib.ListN.{length, get_or, drop}
 use borrow.Author.Tests.{le-leb, lt-leb, lt-ltb, le-ltb}
+use Rattle.std.specs.Prelude.{Some, None, map, slice_range, ◌⊎◌}
+use Rattle.std.proofs.lemmas.List.{map-id}
 use Rattle.meaning.specs.Answers.{refused, broken}
 use Rattle.meaning.specs.Dictionary as dictionary
-use Rattle.meaning.specs.Dictionary.{Dict, start_at, rank_walk, rank_from, placed, select_start, select_from}
+use Rattle.meaning.specs.Dictionary.{Dict, limit, start_at, rank_walk, rank_from, placed, select_start, select_from}
 use Rattle.meaning.proofs.If.{if_true, if_false, and_true}
-use Rattle.sparse_one_nnd.specs.declared.Count.{Count}
-use Rattle.sparse_one_nnd.specs.declared.Count.TheVariants as count
-use Rattle.sparse_one_nnd.specs.declared.Found.{Found}
-use Rattle.sparse_one_nnd.specs.declared.Found.TheVariants as found
-use Rattle.sparse_one_nnd.specs.Said.{dict_at, said_count, said_found}
-use Rattle.sparse_one_nnd.specs.Start.{start_in, limit_start, counted}
+use Rattle.sparse_one_nnd.specs.Said.{dict_at}
+use Rattle.sparse_one_nnd.specs.Start.{entry_of, start_in, limit_start}
 use Rattle.sparse_one_nnd.specs.declared.entries.Start.{Start}
-use Rattle.sparse_one_nnd.specs.declared.entries.Start.TheVariants as start
-use Rattle.sparse_one_nnd.proofs.Ranks.{counted_none, counted_over, walk_le}
+use Rattle.sparse_one_nnd.proofs.Lists.{past_rest, past_length}
+use Rattle.sparse_one_nnd.proofs.Ranks.{limit_none, limit_over, walk_le}
+
+-- an entry that is there, or not
+module _ (es : List ℕ) (i : ℕ) where
+  pub entry_out : None ≡ entry_of (map (λ x. x) es) i → length es / 2 ≤ i
+  entry_out e = go (dec_le (length es / 2) i)
+    where
+      go : Dec (length es / 2 ≤ i) → length es / 2 ≤ i
+      go (yes h) = h
+      go (no h) = absurd (let f = e ∙ ap (λ (l : List ℕ). entry_of l i) (map-id es) ∙ if_true _ _ (lt-ltb i (length es / 2) (omega arith)) in cc)
+
+  pub entry_is : (p r : ℕ) → Some (p, r) ≡ entry_of (map (λ x. x) es) i → (i < length es / 2) × ((p ≡ get_or es (2 * i) 0) × (r ≡ get_or es (2 * i + 1) 0))
+  entry_is p r e = go (dec_lt i (length es / 2))
+    where
+      at : Some (p, r) ≡ entry_of es i
+      at = e ∙ ap (λ (l : List ℕ). entry_of l i) (map-id es)
+
+      go : Dec (i < length es / 2) → (i < length es / 2) × ((p ≡ get_or es (2 * i) 0) × (r ≡ get_or es (2 * i + 1) 0))
+      go (yes h) =
+          let f = at ∙ if_true _ _ (lt-ltb i (length es / 2) h) in
+          let z : (p, r) ≡ (get_or es (2 * i) 0, get_or es (2 * i + 1) 0) = cc in
+          (h, (ap (λ (q : ℕ × ℕ). q.0) z, ap (λ (q : ℕ × ℕ). q.1) z))
+      go (no h) = absurd (let f = at ∙ if_false _ _ (le-ltb i (length es / 2) (omega arith)) in cc)
 
 pub and_left : {a : Bool} (b c : Bool) → a ≡ false → ((a && b) && c) ≡ false
 and_left b c e = rw e
@@ -36,8 +56,11 @@ and_right false e = refl
 
 -- a start is there or not, and its ones fit or not
 module _ (B M L : List ℕ) (g m : ℕ) where
-  none_out : start_at (dict_at B M L) g m ≡ none → start_in B start.Broken ≡ limit_start (start_at (dict_at B M L) g m)
-  unfolding start_in limit_start
+  abbrev Says : Option dictionary.Start → Type 0
+  Says s = s ≡ limit_start (start_at (dict_at B M L) g m)
+
+  none_out : start_at (dict_at B M L) g m ≡ none → Says none
+  unfolding limit_start
   none_out e = sym (ap limit_start e)
 
   pub no_large : length L / 2 ≤ g → start_at (dict_at B M L) g m ≡ none
@@ -62,35 +85,42 @@ module _ (B M L : List ℕ) (g m : ℕ) where
       (and_true (and_true (lt-ltb (2 * g + 1) (length L) (omega arith)) (lt-ltb (2 * m + 1) (length M) (omega arith)))
       (le-leb (get_or L (2 * g) 0 + get_or M (2 * m) 0) (length B) p))
 
-  -- one law for each way of `start_of`
-  pub start_large : length L / 2 ≤ g → start_in B start.Broken ≡ limit_start (start_at (dict_at B M L) g m)
-  start_large h = none_out (no_large h)
+  -- one law for each way of `start`
+  pub start_large : None ≡ entry_of (map (λ x. x) L) g → Says none
+  start_large e = none_out (no_large (entry_out L g e))
 
-  pub start_middle : length M / 2 ≤ m → start_in B start.Broken ≡ limit_start (start_at (dict_at B M L) g m)
-  start_middle h = none_out (no_middle h)
+  pub start_middle : None ≡ entry_of (map (λ x. x) M) m → Says none
+  start_middle e = none_out (no_middle (entry_out M m e))
 
-  module _ (base more : ℕ) (e : base ≡ get_or L (2 * g) 0) (f : more ≡ get_or M (2 * m) 0) where
-    pub start_base : length B < base → start_in B start.Broken ≡ limit_start (start_at (dict_at B M L) g m)
-    start_base h = none_out (past (omega arith))
+  module _ (base rank more ones : ℕ) (e : Some (base, rank) ≡ entry_of (map (λ x. x) L) g) (f : Some (more, ones) ≡ entry_of (map (λ x. x) M) m) where
+    pub start_past : length B < base + more → Says none
+    start_past h = none_out (past (omega (arith, entry_is L g base rank e, entry_is M m more ones f)))
 
-    pub start_past : length B - base < more → start_in B start.Broken ≡ limit_start (start_at (dict_at B M L) g m)
-    start_past h = none_out (past (omega arith))
+    pub start_over : 2 ^ 64 ≤ rank + ones → Says none
+    unfolding limit_start
+    start_over t = go (dec_le (base + more) (length B))
+      where
+        go : Dec (base + more ≤ length B) → Says none
+        go (no h) = start_past (omega arith)
+        go (yes h) =
+            let p = entry_is L g base rank e in
+            let q = entry_is M m more ones f in
+            sym (ap limit_start (there p.0 q.0 (omega (arith, p.1, q.1)))
+            ∙ if_false _ _ (le-ltb (get_or L (2 * g + 1) 0 + get_or M (2 * m + 1) 0) (2 ^ 64) (omega (arith, p.1, q.1))))
 
-    module _ (rank ones : ℕ) (u : rank ≡ get_or L (2 * g + 1) 0) (v : ones ≡ get_or M (2 * m + 1) 0) (h : g < length L / 2) (k : m < length M / 2)
-        (p : base ≤ length B) (q : more ≤ length B - base) where
-      inside : get_or L (2 * g) 0 + get_or M (2 * m) 0 ≤ length B
-      inside = omega arith
+    pub start_out : (at : ℕ) → at ≡ base + more → (length B < at) ⊎ (length B < length B) → Says none
+    start_out at a h = start_past (omega (arith, past_length at B h))
 
-      pub start_over : 18446744073709551615 - rank < ones → start_in B start.Broken ≡ limit_start (start_at (dict_at B M L) g m)
-      unfolding start_in limit_start
-      start_over t =
-          sym (ap limit_start (there h k inside) ∙ if_false _ _ (le-ltb (get_or L (2 * g + 1) 0 + get_or M (2 * m + 1) 0) (2 ^ 64) (omega arith)))
-
-      pub start_is : rank < 2 ^ 64 → ones ≤ 18446744073709551615 - rank → start_in B (start.From (base + more) (rank + ones)) ≡ limit_start (start_at (dict_at B M L) g m)
-      unfolding start_in limit_start
-      start_is s t =
-          ap₂ (λ (q o : ℕ). some (record { passed = o; rest = drop q B })) (ap₂ ◌+◌ e f) (ap₂ ◌+◌ u v)
-          ∙ sym (ap limit_start (there h k inside) ∙ if_true _ _ (lt-ltb (get_or L (2 * g + 1) 0 + get_or M (2 * m + 1) 0) (2 ^ 64) (omega arith)))
+    pub start_is : (at o : ℕ) (l : List ℕ) → at ≡ base + more → (rank + ones < 2 ^ 64) × (o ≡ rank + ones) → at ≤ length B → l ≡ slice_range B at (length B)
+        → Says (some (record { passed = o; rest = l }))
+    unfolding limit_start
+    start_is at o l a t h u =
+        let p = entry_is L g base rank e in
+        let q = entry_is M m more ones f in
+        let v : at ≡ get_or L (2 * g) 0 + get_or M (2 * m) 0 = omega (arith, p.1, q.1) in
+        let w : o ≡ get_or L (2 * g + 1) 0 + get_or M (2 * m + 1) 0 = omega (arith, p.1, q.1) in
+        ap₂ (λ (o : ℕ) (l : List ℕ). some (record { passed = o; rest = l })) w (u ∙ past_rest B at ∙ ap (λ (k : ℕ). drop k B) v)
+        ∙ sym (ap limit_start (there p.0 q.0 (omega arith)) ∙ if_true _ _ (lt-ltb (get_or L (2 * g + 1) 0 + get_or M (2 * m + 1) 0) (2 ^ 64) (omega arith)))
 
 -- what is known of a start from its limit
 data Begun (o : Option dictionary.Start) : Option dictionary.Start → Type 0 where
@@ -120,25 +150,26 @@ from_some : (d : Dict) (x g m : ℕ) (s : dictionary.Start) → start_at d g m �
 unfolding rank_from
 from_some d x g m s e = rw (e, rank_from)
 
-module _ (B : List ℕ) (d : Dict) (x g m : ℕ) where
-  pub rank_broken : (s : Start) → start_in B s ≡ limit_start (start_at d g m) → s ≡ start.Broken → said_count count.Broken ≡ counted (rank_from d x g m)
-  unfolding start_in said_count
-  rank_broken s e f = go (limit_start (start_at d g m)) (known (start_at d g m)) (sym (ap (start_in B) f) ∙ e)
+module _ (d : Dict) (x g m : ℕ) where
+  pub rank_broken : start_in None ≡ limit_start (start_at d g m) → none ≡ limit (rank_from d x g m)
+  rank_broken e = go (limit_start (start_at d g m)) (known (start_at d g m)) e
     where
-      go : (o : Option dictionary.Start) → Begun (start_at d g m) o → none ≡ o → refused broken ≡ counted (rank_from d x g m)
-      go none (absent f) e = sym (counted_none _ (from_none d x g m f))
+      go : (o : Option dictionary.Start) → Begun (start_at d g m) o → none ≡ o → none ≡ limit (rank_from d x g m)
+      go none (absent f) e = sym (limit_none _ (from_none d x g m f))
       go none (over s f h) e =
-          sym (counted_over _ (λ k q. omega (arith, walk_le (x % 256) (x / 256 - 8 * m) s.passed s.rest k (sym (from_some d x g m s f) ∙ q))))
+          sym (limit_over _ (λ k q. omega (arith, walk_le (x % 256) (x / 256 - 8 * m) s.passed s.rest k (sym (from_some d x g m s f) ∙ q))))
       go (some s) b e = absurd (none_some (sym e) refl)
 
-  pub rank_begun : (s : Start) (p r : ℕ) (a : Count) → start_in B s ≡ limit_start (start_at d g m) → s ≡ start.From p r
-      → said_count a ≡ counted (rank_walk (x % 256) (x / 256 - 8 * m) r (drop p B)) → said_count a ≡ counted (rank_from d x g m)
-  unfolding start_in
-  rank_begun s p r a e q f = go (limit_start (start_at d g m)) (known (start_at d g m)) (sym (ap (start_in B) q) ∙ e)
+  pub rank_begun : (s : Start) → start_in (Some s) ≡ limit_start (start_at d g m)
+      → limit (rank_walk (x % 256) (x / 256 - 8 * m) s.ones s.rest.now) ≡ limit (rank_from d x g m)
+  rank_begun s e = go (limit_start (start_at d g m)) (known (start_at d g m)) e
     where
-      go : (o : Option dictionary.Start) → Begun (start_at d g m) o → some (record { passed = r; rest = drop p B }) ≡ o → said_count a ≡ counted (rank_from d x g m)
+      go : (o : Option dictionary.Start) → Begun (start_at d g m) o → some (record { passed = s.ones; rest = s.rest.now }) ≡ o
+          → limit (rank_walk (x % 256) (x / 256 - 8 * m) s.ones s.rest.now) ≡ limit (rank_from d x g m)
       go none b e = absurd (none_some e refl)
-      go (some s) (begun t q h) e = let z : record { passed = r; rest = drop p B } ≡ s = cc in f ∙ ap counted (ap (λ (s : dictionary.Start). rank_walk (x % 256) (x / 256 - 8 * m) s.passed s.rest) z ∙ sym (from_some d x g m s q))
+      go (some t) (begun u q h) e =
+          let z : record { passed = s.ones; rest = s.rest.now } ≡ t = cc in
+          ap limit (ap (λ (s : dictionary.Start). rank_walk (x % 256) (x / 256 - 8 * m) s.passed s.rest) z ∙ sym (from_some d x g m t q))
 
 -- select from a start
 start_over_is : (x q o : ℕ) (bs : List ℕ) → q < 2 ^ 64 → 2 ^ 64 ≤ o → select_start x q o bs ≡ refused broken
@@ -152,12 +183,12 @@ unfolding select_from
 select_some d q g m s e h = rw (e, select_from) (if_true _ _ (lt-ltb (get_or d.large (2 * g + 1) 0) q h))
 
 module _ (d : Dict) (q g m : ℕ) where
-  pub from_out : start_at d g m ≡ none → said_found found.Broken ≡ placed (select_from d q g m)
-  unfolding said_found placed select_from
+  pub from_out : start_at d g m ≡ none → refused broken ≡ placed (select_from d q g m)
+  unfolding placed select_from
   from_out e = rw (e, select_from)
 
-  pub from_above : q ≤ get_or d.large (2 * g + 1) 0 → said_found found.Broken ≡ placed (select_from d q g m)
-  unfolding said_found placed select_from
+  pub from_above : q ≤ get_or d.large (2 * g + 1) 0 → refused broken ≡ placed (select_from d q g m)
+  unfolding placed select_from
   from_above h = go (start_at d g m)
     where
       go : (o : Option dictionary.Start)
@@ -165,23 +196,22 @@ module _ (d : Dict) (q g m : ℕ) where
       go none = refl
       go (some s) = sym (ap placed (if_false _ _ (le-ltb (get_or d.large (2 * g + 1) 0) q h)))
 
-  module _ (B : List ℕ) (h : get_or d.large (2 * g + 1) 0 < q) where
-    pub select_broken : (s : Start) → q < 2 ^ 64 → start_in B s ≡ limit_start (start_at d g m) → s ≡ start.Broken → said_found found.Broken ≡ placed (select_from d q g m)
-    unfolding start_in said_found placed
-    select_broken s u e f = go (limit_start (start_at d g m)) (known (start_at d g m)) (sym (ap (start_in B) f) ∙ e)
+  module _ (h : get_or d.large (2 * g + 1) 0 < q) where
+    pub select_broken : q < 2 ^ 64 → start_in None ≡ limit_start (start_at d g m) → refused broken ≡ placed (select_from d q g m)
+    unfolding placed
+    select_broken u e = go (limit_start (start_at d g m)) (known (start_at d g m)) e
       where
         go : (o : Option dictionary.Start) → Begun (start_at d g m) o → none ≡ o → refused broken ≡ placed (select_from d q g m)
         go none (absent f) e = from_out f
         go none (over s f k) e = sym (ap placed (select_some d q g m s f h ∙ start_over_is (2048 * m) q s.passed s.rest u k))
         go (some s) b e = absurd (none_some (sym e) refl)
 
-    pub select_begun : (s : Start) (p r : ℕ) (a : Found) → start_in B s ≡ limit_start (start_at d g m) → s ≡ start.From p r
-        → said_found a ≡ placed (select_start (2048 * m) q r (drop p B)) → said_found a ≡ placed (select_from d q g m)
-    unfolding start_in
-    select_begun s p r a e c f = go (limit_start (start_at d g m)) (known (start_at d g m)) (sym (ap (start_in B) c) ∙ e)
+    pub select_begun : (s : Start) → start_in (Some s) ≡ limit_start (start_at d g m) → placed (select_start (2048 * m) q s.ones s.rest.now) ≡ placed (select_from d q g m)
+    select_begun s e = go (limit_start (start_at d g m)) (known (start_at d g m)) e
       where
-        go : (o : Option dictionary.Start) → Begun (start_at d g m) o → some (record { passed = r; rest = drop p B }) ≡ o → said_found a ≡ placed (select_from d q g m)
+        go : (o : Option dictionary.Start) → Begun (start_at d g m) o → some (record { passed = s.ones; rest = s.rest.now }) ≡ o
+            → placed (select_start (2048 * m) q s.ones s.rest.now) ≡ placed (select_from d q g m)
         go none b e = absurd (none_some e refl)
-        go (some s) (begun t v k) e =
-            let z : record { passed = r; rest = drop p B } ≡ s = cc in
-            f ∙ ap placed (ap (λ (s : dictionary.Start). select_start (2048 * m) q s.passed s.rest) z ∙ sym (select_some d q g m s v h))
+        go (some t) (begun u v k) e =
+            let z : record { passed = s.ones; rest = s.rest.now } ≡ t = cc in
+            ap placed (ap (λ (s : dictionary.Start). select_start (2048 * m) q s.passed s.rest) z ∙ sym (select_some d q g m t v h))

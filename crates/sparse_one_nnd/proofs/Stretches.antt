@@ -10,6 +10,7 @@ use lib.Dec.{eqb}
 use lib.ListN.{get_or}
 use lib.Pow.{shr-shr}
 use borrow.Author.Tests.{eq-eqb, ne_eqb}
+use Rattle.std.specs.Int.{from_bool}
 use Rattle.meaning.specs.Bits.{opens, tab, bit, as_bit, bit_at}
 use Rattle.meaning.proofs.Tab.{opens_append, length_tab, tab_snoc, tab_add}
 use Rattle.sparse_one_nnd.specs.declared.first_pass.Stretch.{Stretch}
@@ -115,13 +116,17 @@ adding_start f from k = record { within = omega arith; same = refl }
 pub adding_few : {f : ℕ → Bool} {from k c i : ℕ} → Adding f from k c i → c ≤ i
 adding_few {f} {from} {k} {c} {i} a = omega (arith, a.same, opens_le (tab f from i), length_tab f from i)
 
-pub adding_on : {f : ℕ → Bool} {from k c i : ℕ} → Adding f from k c i → (s : Stretch) (r : ℕ) → StretchIs f (from + i) (k - i) s → i < k → r ≡ c + as_bit s.one
-    → Adding f from k r (i + s.places)
+bit_is : (b : Bool) → from_bool b ≡ as_bit b
+bit_is true = refl
+bit_is false = refl
+
+pub adding_on : {f : ℕ → Bool} {from k c i : ℕ} → Adding f from k c i → (s : Stretch) (r : ℕ) → StretchIs f (from + i) (k - i) s → i < k → r ≡ from_bool s.one
+    → Adding f from k (c + r) (i + s.places)
 adding_on {f} {from} {k} {c} {i} a s r h t e =
     record {
       within = omega (arith, h.within);
       same =
-          e
+          ap (λ (r : ℕ). c + r) (e ∙ bit_is s.one)
           ∙ sym (ap opens (tab_add f from i s.places) ∙ opens_append (tab f from i) (tab f (from + i) s.places)
           ∙ ap₂ ◌+◌ (sym a.same) (stretch_opens f (from + i) (k - i) s h));
     }
@@ -129,8 +134,6 @@ adding_on {f} {from} {k} {c} {i} a s r h t e =
 pub adding_end : {f : ℕ → Bool} {from k c i : ℕ} → Adding f from k c i → k ≤ i → c ≡ opens (tab f from k)
 adding_end {f} {from} {k} {c} {i} a h = a.same ∙ ap (λ (j : ℕ). opens (tab f from j)) (omega (arith, a.within))
 
-pub add_true : (c : ℕ) (b : Bool) → b ≡ true → c + 1 ≡ c + as_bit b
-add_true c b e = ap (λ (b : Bool). c + as_bit b) (sym e)
-
-pub add_false : (c : ℕ) (b : Bool) → b ≡ false → c ≡ c + as_bit b
-add_false c b e = sym (add-zero c) ∙ ap (λ (b : Bool). c + as_bit b) (sym e)
+pub bit_small : (b : Bool) (r : ℕ) → r ≡ from_bool b → r ≤ 1
+bit_small true r e = omega arith
+bit_small false r e = omega arith

@@ -1,27 +1,27 @@
 -- From the first pass to a write, on each way, and from a write over zeros to a build.
-use mathlib.Core.Path.{◌≡◌, sym, ap, ap₂, ◌∙◌, subst}
+use mathlib.Core.Path.{◌≡◌, sym, ap, ap₂, ◌∙◌}
 use mathlib.Core.List.{List}
 use Prim.Native.Nat.{ℕ, ◌+◌, ◌*◌, ◌-◌, ◌/◌, ◌≤◌, ◌<◌}
 use native.Mathlib.Omega.{arith}
 use lib.ListN.{length, replicate}
 use lib.Seq.{sets}
-use Rattle.meaning.specs.Answers.{Answer, is, refused}
+use Rattle.meaning.specs.Answers.{Answer, is}
 use Rattle.meaning.specs.Bits.{bits_of}
 use Rattle.meaning.specs.Dictionary.{Dict, bytes_of, dict_of, dict_with}
 use Rattle.meaning.specs.Refusals.{full_block}
 use Rattle.meaning.specs.Direct.{Entries, DictRooms, DictAfter, DictAccepted, dict_rooms, dict_put, dict_zeroed, dict_write, dict_build}
+use Rattle.std.specs.Prelude.{Ok, Err}
+use Rattle.refusal.specs.declared.Refusal.{Refusal}
+use Rattle.refusal.specs.declared.Refusal.TheVariants.{Room}
 use Rattle.meaning.proofs.Narrow.{NoFull, no_full}
 use Rattle.meaning.proofs.Stored.{length_bits}
-use Rattle.meaning.proofs.Direct.{direct_broken, direct_many, direct_room_1, direct_room_2, direct_room_3}
-use Rattle.meaning.proofs.Planned.{write_refused, write_accepted, refused_full, write_build}
+use Rattle.meaning.proofs.Direct.{direct_room_1, direct_room_2, direct_room_3}
+use Rattle.meaning.proofs.Planned.{write_refused, write_accepted, write_build}
 use Rattle.sparse_one_nnd.specs.declared.SparseOneNnd.{SparseOneNnd}
-use Rattle.sparse_one_nnd.specs.declared.Built.TheVariants as built
-use Rattle.sparse_one_nnd.specs.declared.first_pass.Pass.{Pass}
-use Rattle.sparse_one_nnd.specs.declared.first_pass.Pass.TheVariants as pass
-use Rattle.sparse_one_nnd.specs.Said.{entries_in, dict_at, said_built, after, many}
-use Rattle.sparse_one_nnd.specs.Blocks.{PassIs, Counted, FullIs, ManyIs, counts_of}
+use Rattle.sparse_one_nnd.specs.Said.{entries_in, dict_at, said_entries, after}
+use Rattle.sparse_one_nnd.specs.Blocks.{Counted, Unplanned, counts_of}
 use Rattle.sparse_one_nnd.specs.Writing.{Writable}
-use Rattle.sparse_one_nnd.proofs.Plans.{counts_whole, counts_bytes, counts_middle, counts_large, counts_is, counts_blocks, counts_few}
+use Rattle.sparse_one_nnd.proofs.Plans.{counts_whole, counts_bytes, counts_middle, counts_large, counts_is, counts_blocks}
 
 module _ {ws : List ℕ} {n blocks ones : ℕ} (q : Counted ws n blocks ones) (o : SparseOneNnd) (B M L : List ℕ) (c : SparseOneNnd)
     (e : entries_in c ≡ counts_of blocks ones) where
@@ -37,35 +37,31 @@ module _ {ws : List ℕ} {n blocks ones : ℕ} (q : Counted ws n blocks ones) (o
   c_larges : 2 * c.larges ≡ length (dict_of (bits_of ws n)).large
   c_larges = ap (λ (x : Entries). 2 * x.large) e ∙ sym (counts_large q)
 
-  pub entries_few : (c.middles ≤ 2097152) × (c.larges ≤ 2097152)
-  entries_few =
-      (omega (arith, ap (λ (x : Entries). x.middle) e, counts_few q), omega (arith, ap (λ (x : Entries). x.large) e, counts_few q))
-
   pub room_1 : (r : ℕ) → r ≡ length B - o.bytes → r < c.bytes
-      → after (said_built (built.Room 1)) (dict_at B M L) ≡ dict_write ws n (entries_in o) (dict_at B M L)
-  unfolding said_built dict_rooms
+      → after (said_entries (Err (Room 1))) (dict_at B M L) ≡ dict_write ws n (entries_in o) (dict_at B M L)
+  unfolding dict_rooms
   room_1 r f h =
       sym (write_refused ws n (entries_in o) (dict_at B M L) _
       (direct_room_1 ws n rooms q.held.inside q.held.few q.narrow (omega (arith, c_bytes))))
 
   module _ (r : ℕ) (f : r ≡ length B - o.bytes) (h : c.bytes ≤ r) where
-    pub room_2 : (s : ℕ) → s ≡ length M - 2 * o.middles → s < 2 * c.middles
-        → after (said_built (built.Room 2)) (dict_at B M L) ≡ dict_write ws n (entries_in o) (dict_at B M L)
-    unfolding said_built dict_rooms
+    pub room_2 : (s : ℕ) → s ≡ length M / 2 - o.middles → s < c.middles
+        → after (said_entries (Err (Room 2))) (dict_at B M L) ≡ dict_write ws n (entries_in o) (dict_at B M L)
+    unfolding dict_rooms
     room_2 s g k =
         sym (write_refused ws n (entries_in o) (dict_at B M L) _
         (direct_room_2 ws n rooms q.held.inside q.held.few q.narrow (omega (arith, c_bytes)) (omega (arith, c_middles))))
 
-    module _ (s : ℕ) (g : s ≡ length M - 2 * o.middles) (k : 2 * c.middles ≤ s) where
-      pub room_3 : (t : ℕ) → t ≡ length L - 2 * o.larges → t < 2 * c.larges
-          → after (said_built (built.Room 3)) (dict_at B M L) ≡ dict_write ws n (entries_in o) (dict_at B M L)
-      unfolding said_built dict_rooms
+    module _ (s : ℕ) (g : s ≡ length M / 2 - o.middles) (k : c.middles ≤ s) where
+      pub room_3 : (t : ℕ) → t ≡ length L / 2 - o.larges → t < c.larges
+          → after (said_entries (Err (Room 3))) (dict_at B M L) ≡ dict_write ws n (entries_in o) (dict_at B M L)
+      unfolding dict_rooms
       room_3 t u v =
           sym (write_refused ws n (entries_in o) (dict_at B M L) _
           (direct_room_3 ws n rooms q.held.inside q.held.few q.narrow (omega (arith, c_bytes)) (omega (arith, c_middles))
           (omega (arith, c_larges))))
 
-      module _ (t : ℕ) (u : t ≡ length L - 2 * o.larges) (v : 2 * c.larges ≤ t) where
+      module _ (t : ℕ) (u : t ≡ length L / 2 - o.larges) (v : c.larges ≤ t) where
         pub writable : Writable ws n blocks o B M L
         unfolding NoFull
         writable =
@@ -100,8 +96,8 @@ module _ {ws : List ℕ} {n blocks ones : ℕ} (q : Counted ws n blocks ones) (o
 
         pub made : (B' M' L' : List ℕ) → B' ≡ sets B o.bytes (dict_with (bits_of ws n) blocks).bytes
             → M' ≡ sets M (2 * o.middles) (dict_with (bits_of ws n) blocks).middle → L' ≡ sets L (2 * o.larges) (dict_with (bits_of ws n) blocks).large
-            → after (said_built (built.Made c)) (dict_at B' M' L') ≡ dict_write ws n (entries_in o) (dict_at B M L)
-        unfolding said_built dict_put
+            → after (said_entries (Ok c)) (dict_at B' M' L') ≡ dict_write ws n (entries_in o) (dict_at B M L)
+        unfolding dict_put
         made B' M' L' x y z =
             ap₂ (λ (a : Answer Entries) (d : Dict). after a d) (ap is (e ∙ counts_is q)) areas
             ∙ sym (write_accepted ws n (entries_in o) (dict_at B M L) accepted)
@@ -115,28 +111,9 @@ module _ {ws : List ℕ} {n blocks ones : ℕ} (q : Counted ws n blocks ones) (o
                 }
 
 -- what the first pass refuses
-module _ (ws : List ℕ) (n : ℕ) (p : Pass) (h : PassIs ws n p) (o : SparseOneNnd) (B M L : List ℕ) where
-  pub write_broken : p ≡ pass.Broken → after (said_built built.Broken) (dict_at B M L) ≡ dict_write ws n (entries_in o) (dict_at B M L)
-  unfolding said_built
-  write_broken e =
-      sym (write_refused ws n (entries_in o) (dict_at B M L) _ (direct_broken ws n (dict_rooms (entries_in o) (dict_at B M L)) (subst (PassIs ws n) e h)))
-
-  pub write_many : (k : ℕ) → p ≡ pass.Many k → after (said_built (built.Many k)) (dict_at B M L) ≡ dict_write ws n (entries_in o) (dict_at B M L)
-  unfolding said_built
-  write_many k e =
-      let q : ManyIs ws n k = subst (PassIs ws n) e h in
-      ap (λ (m : ℕ). after (refused (many m)) (dict_at B M L)) q.same
-      ∙ sym (write_refused ws n (entries_in o) (dict_at B M L) _ (direct_many ws n (dict_rooms (entries_in o) (dict_at B M L)) q.inside q.many))
-
-  pub write_full : (b : ℕ) → p ≡ pass.Full b → after (said_built (built.Full b)) (dict_at B M L) ≡ dict_write ws n (entries_in o) (dict_at B M L)
-  unfolding said_built
-  write_full b e =
-      let q : FullIs ws n b = subst (PassIs ws n) e h in
-      sym (write_refused ws n (entries_in o) (dict_at B M L) _
-      (refused_full ws n (dict_rooms (entries_in o) (dict_at B M L)) b (record { inside = q.held.inside; few = q.held.few; full = q.full })))
-
-  pub write_counted : (blocks ones : ℕ) → p ≡ pass.Fits blocks ones → Counted ws n blocks ones
-  write_counted blocks ones e = subst (PassIs ws n) e h
+pub write_unplanned : (ws : List ℕ) (n : ℕ) (r : Refusal) → Unplanned ws n r → (o : SparseOneNnd) (B M L : List ℕ)
+    → after (said_entries (Err r)) (dict_at B M L) ≡ dict_write ws n (entries_in o) (dict_at B M L)
+write_unplanned ws n r u o B M L = sym (write_refused ws n (entries_in o) (dict_at B M L) _ (u.write (dict_rooms (entries_in o) (dict_at B M L))))
 
 -- over zeros, past nothing
 pub write_zeros : (ws : List ℕ) (n : ℕ) (B M L B' M' L' : List ℕ) (o : SparseOneNnd) (r : DictAfter) → B' ≡ replicate (length B) 0 → M' ≡ replicate (length M) 0

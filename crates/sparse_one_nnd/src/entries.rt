@@ -1,94 +1,77 @@
 // The entries of a level's own part, and where a walk starts from them.
-ghost use Rattle.std.specs.Prelude.{◌≡◌, pred, min, ◌+◌, ◌-◌, ◌/◌, eqb};
-ghost use Rattle.meaning.specs.Dictionary.{start_at};
-ghost use Rattle.sparse_one_nnd.specs.Said.{dict_at};
-ghost use Rattle.sparse_one_nnd.specs.Start.{start_in, limit_start};
+ghost use Rattle.std.specs.Prelude.{◌≡◌, ◌≤◌, ◌/◌, ℕ, length, map};
+ghost use Rattle.meaning.specs.Dictionary.{before, start_at};
+ghost use Rattle.sparse_one_nnd.specs.Said.{areas_in};
+ghost use Rattle.sparse_one_nnd.specs.Start.{entry_of, start_in, limit_start};
 
-// Where a walk starts: a byte position and the ones before it.
-#[derive(Clone, Copy)]
-pub enum Start {
-    From(usize, usize),
-    Broken,
+use crate::DictAreas;
+
+// A number that an entry has.
+pub(crate) trait Number: Copy {
+    ghost number: { Self → ℕ };
+
+    fn wide(self) -> usize
+        ensures { result ≡ number self };
 }
 
-// What is past it overflows.
-pub const TOP: usize = 18446744073709551615;
+impl Number for u16 {
+    ghost number = { λ x. x };
 
-pub(crate) fn wide8(x: u8) -> usize
-    ensures { result ≡ x }
-{
-    x as usize
+    fn wide(self) -> usize {
+        usize::from(self)
+    }
 }
 
-pub(crate) fn wide16(x: u16) -> usize
-    ensures { result ≡ x }
-{
-    x as usize
+impl Number for u64 {
+    ghost number = { λ x. x };
+
+    fn wide(self) -> usize {
+        self as usize
+    }
 }
 
-pub(crate) fn wide32(x: u32) -> usize
-    ensures { result ≡ x }
+// Entry i, if there is one: a byte position and a rank.
+pub(crate) fn entry<T: Number>(es: &[T], i: usize) -> Option<(usize, usize)>
+    ensures { result ≡ entry_of (map T.number es.now) i }
 {
-    x as usize
+    if es.len() / 2 <= i {
+        return None;
+    }
+    Some((es[2 * i].wide(), es[2 * i + 1].wide()))
 }
 
-pub(crate) fn wide64(x: u64) -> usize
-    ensures { result ≡ x }
+// How many leading entries have a rank below q.
+pub(crate) fn before<T: Number>(es: &[T], q: usize) -> usize
+    ensures { (result ≡ before 0 q (map T.number es.now)) × (result ≤ length es.now / 2) }
 {
-    x as usize
-}
-
-pub(crate) fn one_less(x: usize) -> usize
-    ensures { result ≡ pred x }
-{
-    if x == 0 { 0 } else { x - 1 }
-}
-
-// Whether a part of these lengths is a dictionary without entries.
-pub(crate) fn no_entries(bytes: usize, middles: usize, larges: usize) -> bool
-    ensures { result ≡ eqb (bytes + middles + larges) 0 }
-{
-    if bytes == 0 {
-        if middles == 0 {
-            return larges == 0;
+    let n = es.len() / 2;
+    // By index: `as_chunks` of a type parameter would owe that two of its elements are below 2^63 bytes, which no bound says.
+    for i in 0..n {
+        if q <= es[2 * i + 1].wide() {
+            return i;
         }
     }
-    false
+    n
 }
 
-// The entry that is wanted, or the last there is.
-pub(crate) fn held(wanted: usize, len: usize) -> usize
-    ensures { result ≡ min wanted (len / 2 - 1) }
-{
-    let n = len / 2;
-    if n == 0 {
-        return 0;
-    }
-    if wanted < n { wanted } else { n - 1 }
+// Where a walk starts: the ones before, and the bytes from there on.
+#[derive(Clone, Copy)]
+pub struct Start<'a> {
+    pub ones: usize,
+    pub rest: &'a [u8],
 }
 
-// The start that large entry g and middle entry m give.
-pub(crate) fn start_of(bytes: &[u8], middles: &[u16], larges: &[u64], g: usize, m: usize) -> Start
-    ensures { start_in bytes.now result ≡ limit_start (start_at (dict_at bytes.now middles.now larges.now) g m) }
-{
-    if larges.len() / 2 <= g {
-        return Start::Broken;
+impl<'a> DictAreas<'a> {
+    // The start that large entry g and middle entry m give; none where an entry is not there, or overflows, or is past the bytes.
+    pub(crate) fn start(self, g: usize, m: usize) -> Option<Start<'a>>
+        ensures { start_in result ≡ limit_start (start_at (areas_in self.entry) g m) }
+    {
+        let (base, rank) = entry(self.larges, g)?;
+        let (more, ones) = entry(self.middles, m)?;
+        let at = base.checked_add(more)?;
+        Some(Start {
+            ones: rank.checked_add(ones)?,
+            rest: self.bytes.get(at..)?,
+        })
     }
-    if middles.len() / 2 <= m {
-        return Start::Broken;
-    }
-    let base = wide64(larges[2 * g]);
-    let more = wide16(middles[2 * m]);
-    if bytes.len() < base {
-        return Start::Broken;
-    }
-    if bytes.len() - base < more {
-        return Start::Broken;
-    }
-    let rank = wide64(larges[2 * g + 1]);
-    let ones = wide16(middles[2 * m + 1]);
-    if TOP - rank < ones {
-        return Start::Broken;
-    }
-    Start::From(base + more, rank + ones)
 }

@@ -1,56 +1,23 @@
 // The sparse dictionary: the questions to it in areas 1 to 3, the plan, and the build.
 #![tactic(auto)]
 
-ghost use Rattle.std.specs.Prelude.{◌≡◌, length};
+ghost use Rattle.std.specs.Prelude.{◌≡◌, ◌+◌, ◌*◌, length};
+ghost use Rattle.std.proofs.Math.Option.{some};
+ghost use Rattle.meaning.specs.Dictionary.{limit};
 ghost use Rattle.meaning.specs.Direct.{dict_rank, dict_select, dict_pred, dict_succ, dict_past, dict_size, dict_plan, dict_write, dict_build};
-ghost use Rattle.sparse_one_nnd.specs.Said.{entries_in, dict_at, said_count, said_found, said_plan, said_built, after};
+ghost use Rattle.refusal.specs.Said.{said_number, found_number, option_of};
+ghost use Rattle.sparse_one_nnd.specs.Said.{entries_in, areas_in, dict_at, said_entries, after};
 
+mod areas;
 mod entries;
 mod first_pass;
-mod part;
-pub mod rank;
+mod rank;
 mod second_pass;
-pub mod select;
-mod write;
+mod select;
 
-use entries::TOP;
-use first_pass::{Pass, counts_of, scan};
-use part::{fit, front8, front16, front64, past8, past16, past64};
-use write::write_fits;
-
-// What rank and the byte size answer.
-#[derive(Clone, Copy)]
-pub enum Count {
-    Is(usize),
-    Broken,
-}
-
-// What select, pred and succ answer.
-#[derive(Clone, Copy)]
-pub enum Found {
-    At(usize),
-    Nothing,
-    Broken,
-}
-
-// What the plan answers: the counts, or why there is no dictionary.
-#[derive(Clone, Copy)]
-pub enum Planned {
-    Fits(SparseOneNnd),
-    Broken,
-    Many(usize),
-    Full(usize),
-}
-
-// What a write or a build answers.
-#[derive(Clone, Copy)]
-pub enum Built {
-    Made(SparseOneNnd),
-    Broken,
-    Many(usize),
-    Full(usize),
-    Room(usize),
-}
+use first_pass::{counts_of, scan};
+use refusal::Refusal;
+use second_pass::put_blocks;
 
 // The record of counts of a dictionary: bytes, middle entries and large entries.
 #[derive(Clone, Copy)]
@@ -58,6 +25,14 @@ pub struct SparseOneNnd {
     pub bytes: usize,
     pub middles: usize,
     pub larges: usize,
+}
+
+// Areas 1 to 3, or a level's own part of them. An entry is two numbers: a byte position and a rank.
+#[derive(Clone, Copy)]
+pub struct DictAreas<'a> {
+    pub bytes: &'a [u8],
+    pub middles: &'a [u16],
+    pub larges: &'a [u64],
 }
 
 impl SparseOneNnd {
@@ -79,153 +54,104 @@ impl SparseOneNnd {
     }
 
     // The ones up to and at a place.
-    pub fn rank_one(self, bytes: &[u8], middles: &[u16], larges: &[u64], place: usize) -> Count
-        ensures { said_count result ≡ dict_rank (entries_in self) (dict_at bytes.now middles.now larges.now) place }
+    pub fn rank_one(self, areas: DictAreas<'_>, place: usize) -> Result<usize, Refusal>
+        ensures { said_number result ≡ dict_rank (entries_in self) (areas_in areas.entry) place }
     {
-        if fit(self, bytes.len(), middles.len(), larges.len()) {
-            let own8 = front8(bytes, self.bytes);
-            let own16 = front16(middles, self.middles);
-            let own64 = front64(larges, self.larges);
-            return rank::rank(own8, own16, own64, place);
-        }
-        Count::Broken
+        areas.own(self)?.rank(place)
     }
 
     // The place of the r-th one, counted from 1.
-    pub fn select_one(self, bytes: &[u8], middles: &[u16], larges: &[u64], r: usize) -> Found
-        ensures { said_found result ≡ dict_select (entries_in self) (dict_at bytes.now middles.now larges.now) r }
+    pub fn select_one(self, areas: DictAreas<'_>, r: usize) -> Result<Option<usize>, Refusal>
+        ensures { found_number result ≡ dict_select (entries_in self) (areas_in areas.entry) r }
     {
-        if fit(self, bytes.len(), middles.len(), larges.len()) {
-            let own8 = front8(bytes, self.bytes);
-            let own16 = front16(middles, self.middles);
-            let own64 = front64(larges, self.larges);
-            return select::select(own8, own16, own64, r);
-        }
-        Found::Broken
+        areas.own(self)?.select(r)
     }
 
     // The last one up to and at a place.
-    pub fn pred_one(self, bytes: &[u8], middles: &[u16], larges: &[u64], place: usize) -> Found
-        ensures { said_found result ≡ dict_pred (entries_in self) (dict_at bytes.now middles.now larges.now) place }
+    pub fn pred_one(self, areas: DictAreas<'_>, place: usize) -> Result<Option<usize>, Refusal>
+        ensures { found_number result ≡ dict_pred (entries_in self) (areas_in areas.entry) place }
     {
-        if fit(self, bytes.len(), middles.len(), larges.len()) {
-            let own8 = front8(bytes, self.bytes);
-            let own16 = front16(middles, self.middles);
-            let own64 = front64(larges, self.larges);
-            return select::pred(own8, own16, own64, place);
-        }
-        Found::Broken
+        areas.own(self)?.pred(place)
     }
 
     // The first one at or after a place.
-    pub fn succ_one(self, bytes: &[u8], middles: &[u16], larges: &[u64], place: usize) -> Found
-        ensures { said_found result ≡ dict_succ (entries_in self) (dict_at bytes.now middles.now larges.now) place }
+    pub fn succ_one(self, areas: DictAreas<'_>, place: usize) -> Result<Option<usize>, Refusal>
+        ensures { found_number result ≡ dict_succ (entries_in self) (areas_in areas.entry) place }
     {
-        if fit(self, bytes.len(), middles.len(), larges.len()) {
-            let own8 = front8(bytes, self.bytes);
-            let own16 = front16(middles, self.middles);
-            let own64 = front64(larges, self.larges);
-            return select::succ(own8, own16, own64, place);
-        }
-        Found::Broken
+        areas.own(self)?.succ(place)
     }
 
     // The same of a level's part, with `from` entries of each kind before it.
     pub fn rank_part(
         self,
         from: SparseOneNnd,
-        bytes: &[u8],
-        middles: &[u16],
-        larges: &[u64],
+        areas: DictAreas<'_>,
         place: usize,
-    ) -> Count
-        ensures { said_count result ≡ dict_rank (entries_in self) (dict_past (entries_in from) (dict_at bytes.now middles.now larges.now)) place }
+    ) -> Result<usize, Refusal>
+        ensures { said_number result ≡ dict_rank (entries_in self) (dict_past (entries_in from) (areas_in areas.entry)) place }
     {
-        let rest8 = past8(bytes, from.bytes);
-        let rest16 = past16(middles, from.middles);
-        let rest64 = past64(larges, from.larges);
-        self.rank_one(rest8, rest16, rest64, place)
+        self.rank_one(areas.past(from), place)
     }
 
     pub fn select_part(
         self,
         from: SparseOneNnd,
-        bytes: &[u8],
-        middles: &[u16],
-        larges: &[u64],
+        areas: DictAreas<'_>,
         r: usize,
-    ) -> Found
-        ensures { said_found result ≡ dict_select (entries_in self) (dict_past (entries_in from) (dict_at bytes.now middles.now larges.now)) r }
+    ) -> Result<Option<usize>, Refusal>
+        ensures { found_number result ≡ dict_select (entries_in self) (dict_past (entries_in from) (areas_in areas.entry)) r }
     {
-        let rest8 = past8(bytes, from.bytes);
-        let rest16 = past16(middles, from.middles);
-        let rest64 = past64(larges, from.larges);
-        self.select_one(rest8, rest16, rest64, r)
+        self.select_one(areas.past(from), r)
     }
 
     pub fn pred_part(
         self,
         from: SparseOneNnd,
-        bytes: &[u8],
-        middles: &[u16],
-        larges: &[u64],
+        areas: DictAreas<'_>,
         place: usize,
-    ) -> Found
-        ensures { said_found result ≡ dict_pred (entries_in self) (dict_past (entries_in from) (dict_at bytes.now middles.now larges.now)) place }
+    ) -> Result<Option<usize>, Refusal>
+        ensures { found_number result ≡ dict_pred (entries_in self) (dict_past (entries_in from) (areas_in areas.entry)) place }
     {
-        let rest8 = past8(bytes, from.bytes);
-        let rest16 = past16(middles, from.middles);
-        let rest64 = past64(larges, from.larges);
-        self.pred_one(rest8, rest16, rest64, place)
+        self.pred_one(areas.past(from), place)
     }
 
     pub fn succ_part(
         self,
         from: SparseOneNnd,
-        bytes: &[u8],
-        middles: &[u16],
-        larges: &[u64],
+        areas: DictAreas<'_>,
         place: usize,
-    ) -> Found
-        ensures { said_found result ≡ dict_succ (entries_in self) (dict_past (entries_in from) (dict_at bytes.now middles.now larges.now)) place }
+    ) -> Result<Option<usize>, Refusal>
+        ensures { found_number result ≡ dict_succ (entries_in self) (dict_past (entries_in from) (areas_in areas.entry)) place }
     {
-        let rest8 = past8(bytes, from.bytes);
-        let rest16 = past16(middles, from.middles);
-        let rest64 = past64(larges, from.larges);
-        self.succ_one(rest8, rest16, rest64, place)
+        self.succ_one(areas.past(from), place)
     }
 
-    // 1, 4 and 16 bytes for each entry of the three kinds.
-    pub fn byte_size(self) -> Count
-        ensures { said_count result ≡ dict_size (entries_in self) }
+    // 1, 4 and 16 bytes for each entry of the three kinds, if the sum does not overflow.
+    fn size(self) -> Option<usize>
+        ensures { option_of result ≡ limit (some (self.bytes + 4 * self.middles + 16 * self.larges)) }
     {
-        let bytes = self.bytes;
-        let middles = self.middles;
-        let larges = self.larges;
-        if (TOP - bytes) / 4 < middles {
-            return Count::Broken;
-        }
-        let most = bytes + 4 * middles;
-        if (TOP - most) / 16 < larges {
-            return Count::Broken;
-        }
-        Count::Is(most + 16 * larges)
+        let middles = self.middles.checked_mul(4)?;
+        let larges = self.larges.checked_mul(16)?;
+        self.bytes.checked_add(middles)?.checked_add(larges)
+    }
+
+    // The byte size.
+    pub fn byte_size(self) -> Result<usize, Refusal>
+        ensures { said_number result ≡ dict_size (entries_in self) }
+    {
+        self.size().ok_or(Refusal::Broken)
     }
 
     // The plan of a dictionary of the ones of n bits, which looks at no area.
-    pub fn plan(ws: &[u64], n: usize) -> Planned
-        ensures { said_plan result ≡ dict_plan ws.now n }
+    pub fn plan(ws: &[u64], n: usize) -> Result<SparseOneNnd, Refusal>
+        ensures { said_entries result ≡ dict_plan ws.now n }
     {
-        let pass = scan(ws, n);
-        match pass {
-            Pass::Broken => Planned::Broken,
-            Pass::Many(k) => Planned::Many(k),
-            Pass::Full(b) => Planned::Full(b),
-            Pass::Fits(blocks, ones) => Planned::Fits(counts_of(blocks, ones)),
-        }
+        let found = scan(ws, n)?;
+        Ok(counts_of(found))
     }
 
     // The dictionary of the ones of n bits, written past `from` entries of each kind; refused, it changes nothing.
+    // The areas come as three slices: a struct that holds `&mut` would need a clause in each function that it keeps its borrows, which is no plainer.
     pub fn write(
         ws: &[u64],
         n: usize,
@@ -233,18 +159,22 @@ impl SparseOneNnd {
         bytes: &mut [u8],
         middles: &mut [u16],
         larges: &mut [u64],
-    ) -> Built
-        ensures { after (said_built result) (dict_at bytes.new middles.new larges.new) ≡ dict_write ws.now n (entries_in from) (dict_at bytes.old middles.old larges.old) }
+    ) -> Result<SparseOneNnd, Refusal>
+        ensures { after (said_entries result) (dict_at bytes.new middles.new larges.new) ≡ dict_write ws.now n (entries_in from) (dict_at bytes.old middles.old larges.old) }
     {
-        let pass = scan(ws, n);
-        match pass {
-            Pass::Broken => Built::Broken,
-            Pass::Many(k) => Built::Many(k),
-            Pass::Full(b) => Built::Full(b),
-            Pass::Fits(blocks, ones) => {
-                write_fits(ws, n, from, bytes, middles, larges, blocks, ones)
-            }
+        let found = scan(ws, n)?;
+        let counts = counts_of(found);
+        if bytes.len().saturating_sub(from.bytes) < counts.bytes {
+            return Err(Refusal::Room(1));
         }
+        if (middles.len() / 2).saturating_sub(from.middles) < counts.middles {
+            return Err(Refusal::Room(2));
+        }
+        if (larges.len() / 2).saturating_sub(from.larges) < counts.larges {
+            return Err(Refusal::Room(3));
+        }
+        put_blocks(ws, n, from, bytes, middles, larges, found.blocks);
+        Ok(counts)
     }
 
     // A dictionary built directly in areas 1 to 3: zeros behind what it uses; refused, its areas are zero.
@@ -254,12 +184,12 @@ impl SparseOneNnd {
         bytes: &mut [u8],
         middles: &mut [u16],
         larges: &mut [u64],
-    ) -> Built
-        ensures { after (said_built result) (dict_at bytes.new middles.new larges.new) ≡ dict_build ws.now n (record { bytes = length bytes.old; middle = length middles.old; large = length larges.old }) }
+    ) -> Result<SparseOneNnd, Refusal>
+        ensures { after (said_entries result) (dict_at bytes.new middles.new larges.new) ≡ dict_build ws.now n (record { bytes = length bytes.old; middle = length middles.old; large = length larges.old }) }
     {
-        words::zero8(bytes);
-        words::zero16(middles);
-        words::zero64(larges);
+        bytes.fill(0);
+        middles.fill(0);
+        larges.fill(0);
         SparseOneNnd::write(ws, n, SparseOneNnd::empty(), bytes, middles, larges)
     }
 }

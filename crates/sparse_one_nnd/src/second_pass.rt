@@ -4,12 +4,11 @@ ghost use Rattle.std.proofs.lemmas.List.Edits.{sets};
 ghost use Rattle.meaning.specs.Bits.{opens, places, bits_of};
 ghost use Rattle.meaning.specs.Dictionary.{block, dict_with};
 ghost use Rattle.sparse_one_nnd.specs.Writing.{block_at, Writable, large_state, large_area, middle_area, passed, Near, BlockFits};
-ghost use Rattle.sparse_one_nnd.specs.Offsets.{met_one, offset_put, OffsetFits, OffsetsFit};
-ghost use Rattle.bit_string.specs.Said.{said_step};
+ghost use Rattle.sparse_one_nnd.specs.Offsets.{OffsetsFit};
 
 use crate::SparseOneNnd;
-use crate::first_pass::{block_ones, lesser};
-use bit_string::Step;
+use crate::first_pass::block_ones;
+use bit_string::BitString;
 use bit_string::one_indices::OneIndices;
 
 // Where the pass is: byte position and rank, and those of the large entry.
@@ -21,45 +20,22 @@ pub struct Writing {
     pub base: usize,
 }
 
-fn narrow8(x: usize) -> u8
-    requires { x < 256 }
-    ensures { result ≡ x }
-{
-    x as u8
-}
-
-fn narrow16(x: usize) -> u16
-    requires { x < 65536 }
-    ensures { result ≡ x }
-{
-    x as u16
-}
-
-fn narrow64(x: usize) -> u64
-    ensures { result ≡ x }
-{
-    x as u64
-}
-
 // The large entry of block b, if it has one.
 fn put_large(larges: &mut [u64], o: usize, b: usize, s: Writing) -> Writing
     requires { 2 * (o + b / 256) + 1 < length larges.old }
     ensures { (result ≡ large_state b s) × (larges.new ≡ large_area o b s larges.old) }
 {
-    let at = s.at;
-    let rank = s.rank;
-    if b % 256 == 0 {
-        let i = 2 * (o + b / 256);
-        larges[i] = narrow64(at);
-        larges[i + 1] = narrow64(rank);
-        return Writing {
-            at: at,
-            rank: rank,
-            home: at,
-            base: rank,
-        };
+    if b % 256 != 0 {
+        return s;
     }
-    s
+    let i = 2 * (o + b / 256);
+    larges[i] = s.at as u64;
+    larges[i + 1] = s.rank as u64;
+    Writing {
+        home: s.at,
+        base: s.rank,
+        ..s
+    }
 }
 
 // The middle entry of block b, if it has one.
@@ -69,23 +45,8 @@ fn put_middle(middles: &mut [u16], o: usize, b: usize, s: Writing)
 {
     if b % 8 == 0 {
         let i = 2 * (o + b / 8);
-        middles[i] = narrow16(s.at - s.home);
-        middles[i + 1] = narrow16(s.rank - s.base);
-    }
-}
-
-// The offset of the one that a step met, written at byte `at`; whether it met one.
-fn put_offset(bytes: &mut [u8], s: Step, at: usize) -> bool
-    requires { OffsetFits bytes.old at (said_step s) }
-    ensures { (result ≡ met_one (said_step s)) × (bytes.new ≡ offset_put bytes.old at (said_step s)) }
-{
-    match s {
-        Step::One(x, _) => {
-            bytes[at] = narrow8(x);
-            true
-        }
-        Step::End => false,
-        Step::Refused(_) => false,
+        middles[i] = (s.at - s.home) as u16;
+        middles[i + 1] = (s.rank - s.base) as u16;
     }
 }
 
@@ -94,14 +55,16 @@ fn put_offsets(ws: &[u64], bytes: &mut [u8], k: usize, at: usize)
     requires { OffsetsFit ws.now bytes.old k at }
     ensures { bytes.new ≡ sets bytes.old at (places 0 (bits_of ws.now k)) }
 {
-    let mut ones = OneIndices::new(ws, k);
+    let mut ones = OneIndices::new(BitString { words: ws, len: k });
     let mut next = at;
-    while put_offset(bytes, ones.next(), next) {
+    // `OneIndices` is no `Iterator`, since a string that it refuses has no end of items: so no `for`.
+    while let Some(place) = ones.next().unwrap_or(None) {
+        bytes[next] = place as u8;
         next += 1;
     }
 }
 
-// The count byte of a block of c ones.
+// The count byte of a block of c ones. One line by itself, since must-fail/empty_uncounted is about it.
 fn put_count(bytes: &mut [u8], at: usize, c: usize)
     requires { (at < length bytes.old) × (c < 256) }
     ensures { bytes.new ≡ set bytes.old at c }
@@ -114,21 +77,14 @@ fn put_block(ws: &[u64], n: usize, bytes: &mut [u8], o: usize, b: usize, s: Writ
     requires { BlockFits ws.now n o b s bytes.old }
     ensures { (result ≡ passed s (opens (block_at ws.now n b))) × (bytes.new ≡ sets bytes.old (o + s.at) (block (block_at ws.now n b))) }
 {
-    let at = s.at;
-    let rank = s.rank;
-    let home = s.home;
-    let base = s.base;
     let c = block_ones(ws, n, b);
-    put_count(bytes, o + at, c);
-    let from = SparseOneNnd::SMALL_SIZE * b;
-    let k = lesser(SparseOneNnd::SMALL_SIZE, n - from);
-    let first = 4 * b;
-    put_offsets(&ws[first..], bytes, k, o + at + 1);
+    put_count(bytes, o + s.at, c);
+    let k = SparseOneNnd::SMALL_SIZE.min(n - SparseOneNnd::SMALL_SIZE * b);
+    put_offsets(&ws[4 * b..], bytes, k, o + s.at + 1);
     Writing {
-        at: at + 1 + c,
-        rank: rank + c,
-        home: home,
-        base: base,
+        at: s.at + 1 + c,
+        rank: s.rank + c,
+        ..s
     }
 }
 
@@ -147,20 +103,15 @@ pub(crate) fn put_blocks(
     ensures middles_after { middles.new ≡ sets middles.old (2 * from.middles) (dict_with (bits_of ws.now n) blocks).middle }
     ensures larges_after { larges.new ≡ sets larges.old (2 * from.larges) (dict_with (bits_of ws.now n) blocks).large }
 {
-    let o8 = from.bytes;
-    let o16 = from.middles;
-    let o64 = from.larges;
     let mut s = Writing {
         at: 0,
         rank: 0,
         home: 0,
         base: 0,
     };
-    let mut b: usize = 0;
-    while b < blocks {
-        s = put_large(larges, o64, b, s);
-        put_middle(middles, o16, b, s);
-        s = put_block(ws, n, bytes, o8, b, s);
-        b += 1;
+    for b in 0..blocks {
+        s = put_large(larges, from.larges, b, s);
+        put_middle(middles, from.middles, b, s);
+        s = put_block(ws, n, bytes, from.bytes, b, s);
     }
 }

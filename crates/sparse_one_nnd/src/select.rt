@@ -1,211 +1,123 @@
 // Select by its steps over a level's own part, and pred and succ by rank and select.
-ghost use Rattle.std.specs.Prelude.{◌≡◌, pred, ◌+◌, ◌*◌, ◌/◌, ◌<◌, ◌≤◌, length, get_or, take, drop};
-ghost use Rattle.meaning.specs.Answers.{is};
-ghost use Rattle.meaning.specs.Dictionary.{before, nth, plus, placed, select_walk, select_start, select_from, start_middle, select_of, pred_of, select_next, succ_by, succ_of};
-ghost use Rattle.sparse_one_nnd.specs.Said.{dict_at, said_found};
+ghost use Rattle.std.specs.Prelude.{◌≡◌, pred, ◌+◌, ◌*◌, ◌/◌, ◌<◌, length, get_or, take, drop};
+ghost use Rattle.std.proofs.Math.Option.{some};
+ghost use Rattle.meaning.specs.Dictionary.{limit, before, nth, plus, placed, select_walk, select_start, select_from, start_middle, select_of, pred_of, succ_of};
+ghost use Rattle.refusal.specs.Said.{found_number, option_of};
+ghost use Rattle.sparse_one_nnd.specs.Said.{areas_in};
 
-use crate::entries::{Start, TOP, no_entries, one_less, start_of, wide8, wide16, wide64};
-use crate::rank::rank;
-use crate::{Count, Found, SparseOneNnd};
-
-// How many leading large entries have a rank that does not exceed q - 1.
-fn before64(es: &[u64], q: usize) -> usize
-    ensures { (result ≡ before 0 q es.now) × (result ≤ length es.now / 2) }
-{
-    let mut i = 0;
-    while i < es.len() / 2 {
-        if q <= wide64(es[2 * i + 1]) {
-            return i;
-        }
-        i += 1;
-    }
-    i
-}
-
-// How many leading middle entries.
-fn before16(es: &[u16], q: usize) -> usize
-    ensures { (result ≡ before 0 q es.now) × (result ≤ length es.now / 2) }
-{
-    let mut i = 0;
-    while i < es.len() / 2 {
-        if q <= wide16(es[2 * i + 1]) {
-            return i;
-        }
-        i += 1;
-    }
-    i
-}
+use crate::entries::{Start, before, entry};
+use crate::{DictAreas, SparseOneNnd};
+use refusal::Refusal;
 
 // The middle entry among the 32 of large entry g.
 fn middle_of(middles: &[u16], g: usize, q: usize) -> usize
     requires { 32 * g < length middles.now / 2 }
     ensures { result ≡ 32 * g + pred (before 0 q (take 64 (drop (64 * g) middles.now))) }
 {
-    let from = 64 * g;
-    if middles.len() - from <= 64 {
-        let n = before16(&middles[from..], q);
-        return 32 * g + one_less(n);
-    }
-    let end = from + 64;
-    let n = before16(&middles[from..end], q);
-    32 * g + one_less(n)
+    let rest = &middles[64 * g..];
+    let own = &rest[..rest.len().min(64)];
+    32 * g + before(own, q).saturating_sub(1)
 }
 
-// Place o of block j from middle entry m on.
-fn place_of(m: usize, j: usize, o: usize) -> Found
-    ensures { said_found result ≡ placed (is (2048 * m + 256 * j + o)) }
+// Place o of block j from middle entry m on, if it does not overflow.
+fn place_of(m: usize, j: usize, o: usize) -> Option<usize>
+    ensures { option_of result ≡ limit (some (2048 * m + 256 * j + o)) }
 {
-    if TOP / SparseOneNnd::MIDDLE_SIZE < m {
-        return Found::Broken;
-    }
-    let middle = SparseOneNnd::MIDDLE_SIZE * m;
-    if (TOP - middle) / SparseOneNnd::SMALL_SIZE < j {
-        return Found::Broken;
-    }
-    let block = middle + SparseOneNnd::SMALL_SIZE * j;
-    if TOP - block < o {
-        return Found::Broken;
-    }
-    Found::At(block + o)
+    let middle = m.checked_mul(SparseOneNnd::MIDDLE_SIZE)?;
+    let block = j.checked_mul(SparseOneNnd::SMALL_SIZE)?;
+    middle.checked_add(block)?.checked_add(o)
 }
 
-// Offset q of that block, whose offsets start at byte `at`.
-fn offset_at(bytes: &[u8], m: usize, j: usize, q: usize, at: usize) -> Found
-    ensures { said_found result ≡ placed (plus (2048 * m + 256 * j) (nth q (drop at bytes.now))) }
+// Offset q of that block, whose offsets `bytes` begins with.
+fn offset_at(bytes: &[u8], m: usize, j: usize, q: usize) -> Result<Option<usize>, Refusal>
+    ensures { found_number result ≡ placed (plus (2048 * m + 256 * j) (nth q bytes.now)) }
 {
-    if bytes.len() <= at {
-        return Found::Broken;
-    }
-    if bytes.len() - at <= q {
-        return Found::Broken;
-    }
-    place_of(m, j, wide8(bytes[at + q]))
+    let offset = *bytes.get(q).ok_or(Refusal::Broken)?;
+    let place = place_of(m, j, usize::from(offset)).ok_or(Refusal::Broken)?;
+    Ok(Some(place))
 }
 
-// Select from the count byte `at` on, of the first block of middle entry m, with q ones to come.
-fn select_walk(bytes: &[u8], m: usize, q: usize, at: usize) -> Found
-    ensures { said_found result ≡ placed (select_walk 0 (2048 * m) q (drop at bytes.now)) }
+// Select from the first block of middle entry m on, with q ones to come.
+fn select_walk(bytes: &[u8], m: usize, q: usize) -> Result<Option<usize>, Refusal>
+    ensures { found_number result ≡ placed (select_walk 0 (2048 * m) q bytes.now) }
 {
     let mut j: usize = 0;
-    let mut rest = q;
-    let mut i = at;
-    while i < bytes.len() {
-        let n = wide8(bytes[i]);
-        if rest <= n {
-            return offset_at(bytes, m, j, one_less(rest), i + 1);
+    let mut left = q;
+    let mut rest = bytes;
+    // A block's step is its count and its offsets, so no `for`.
+    while let Some((&count, offsets)) = rest.split_first() {
+        let n = usize::from(count);
+        if left <= n {
+            return offset_at(offsets, m, j, left.saturating_sub(1));
         }
-        if bytes.len() - i <= n {
-            return Found::Broken;
-        }
+        rest = offsets.get(n..).ok_or(Refusal::Broken)?;
+        left -= n;
         j += 1;
-        rest -= n;
-        i = i + 1 + n;
     }
-    Found::Nothing
+    Ok(None)
 }
 
-// Select of q where `ones` are passed.
-fn select_start(bytes: &[u8], m: usize, q: usize, ones: usize, at: usize) -> Found
-    ensures { said_found result ≡ placed (select_start (2048 * m) q ones (drop at bytes.now)) }
+// Select of q from a start at middle entry m.
+fn select_start(start: Start<'_>, m: usize, q: usize) -> Result<Option<usize>, Refusal>
+    ensures { found_number result ≡ placed (select_start (2048 * m) q start.entry.ones start.entry.rest.now) }
 {
-    if bytes.len() <= at {
-        return Found::Nothing;
+    if start.rest.is_empty() {
+        return Ok(None);
     }
-    if q <= ones {
-        return Found::Broken;
+    if q <= start.ones {
+        return Err(Refusal::Broken);
     }
-    select_walk(bytes, m, q - ones, at)
+    select_walk(start.rest, m, q - start.ones)
 }
 
-// Select from large entry g, whose rank does not exceed q - 1, and middle entry m.
-fn select_from(bytes: &[u8], middles: &[u16], larges: &[u64], q: usize, g: usize, m: usize) -> Found
-    requires { get_or larges.now (2 * g + 1) 0 < q }
-    ensures { said_found result ≡ placed (select_from (dict_at bytes.now middles.now larges.now) q g m) }
-{
-    let start = start_of(bytes, middles, larges, g, m);
-    match start {
-        Start::Broken => Found::Broken,
-        Start::From(at, ones) => select_start(bytes, m, q, ones, at),
+impl DictAreas<'_> {
+    // Select from large entry g, whose rank does not exceed q - 1, and middle entry m.
+    fn select_from(self, q: usize, g: usize, m: usize) -> Result<Option<usize>, Refusal>
+        requires { get_or self.larges.now (2 * g + 1) 0 < q }
+        ensures { found_number result ≡ placed (select_from (areas_in self.entry) q g m) }
+    {
+        let start = self.start(g, m).ok_or(Refusal::Broken)?;
+        select_start(start, m, q)
     }
-}
 
-// Select from large entry g.
-fn select_large(bytes: &[u8], middles: &[u16], larges: &[u64], q: usize, g: usize) -> Found
-    ensures { said_found result ≡ placed (select_from (dict_at bytes.now middles.now larges.now) q g (start_middle (dict_at bytes.now middles.now larges.now) q g)) }
-{
-    if larges.len() / 2 <= g {
-        return Found::Broken;
-    }
-    let ones = wide64(larges[2 * g + 1]);
-    if q <= ones {
-        return Found::Broken;
-    }
-    if middles.len() / 2 <= 32 * g {
-        return Found::Broken;
-    }
-    let m = middle_of(middles, g, q - ones);
-    select_from(bytes, middles, larges, q, g, m)
-}
-
-// The place of the r-th one, counted from 1.
-pub fn select(bytes: &[u8], middles: &[u16], larges: &[u64], r: usize) -> Found
-    ensures { said_found result ≡ select_of (dict_at bytes.now middles.now larges.now) r }
-{
-    if r == 0 {
-        return Found::Nothing;
-    }
-    if no_entries(bytes.len(), middles.len(), larges.len()) {
-        return Found::Nothing;
-    }
-    let g = one_less(before64(larges, r));
-    select_large(bytes, middles, larges, r, g)
-}
-
-// The last one up to and at a place.
-pub fn pred(bytes: &[u8], middles: &[u16], larges: &[u64], place: usize) -> Found
-    ensures { said_found result ≡ pred_of (dict_at bytes.now middles.now larges.now) place }
-{
-    let ranked = rank(bytes, middles, larges, place);
-    match ranked {
-        Count::Is(r) => select(bytes, middles, larges, r),
-        Count::Broken => Found::Broken,
-    }
-}
-
-// Select of one more than r.
-fn select_next(bytes: &[u8], middles: &[u16], larges: &[u64], r: usize) -> Found
-    ensures { said_found result ≡ select_next (dict_at bytes.now middles.now larges.now) r }
-{
-    if TOP <= r {
-        return Found::Broken;
-    }
-    select(bytes, middles, larges, r + 1)
-}
-
-// The naive succ of a place whose rank is r.
-fn succ_by(bytes: &[u8], middles: &[u16], larges: &[u64], place: usize, r: usize) -> Found
-    ensures { said_found result ≡ succ_by (dict_at bytes.now middles.now larges.now) place r (select_of (dict_at bytes.now middles.now larges.now) r) }
-{
-    let found = select(bytes, middles, larges, r);
-    match found {
-        Found::Broken => Found::Broken,
-        Found::Nothing => select_next(bytes, middles, larges, r),
-        Found::At(i) => {
-            if i == place {
-                return Found::At(i);
-            }
-            select_next(bytes, middles, larges, r)
+    // Select from large entry g.
+    fn select_large(self, q: usize, g: usize) -> Result<Option<usize>, Refusal>
+        ensures { found_number result ≡ placed (select_from (areas_in self.entry) q g (start_middle (areas_in self.entry) q g)) }
+    {
+        let (_, ones) = entry(self.larges, g).ok_or(Refusal::Broken)?;
+        if q <= ones || self.middles.len() / 2 <= 32 * g {
+            return Err(Refusal::Broken);
         }
+        let m = middle_of(self.middles, g, q - ones);
+        self.select_from(q, g, m)
     }
-}
 
-// The first one at or after a place.
-pub fn succ(bytes: &[u8], middles: &[u16], larges: &[u64], place: usize) -> Found
-    ensures { said_found result ≡ succ_of (dict_at bytes.now middles.now larges.now) place }
-{
-    let ranked = rank(bytes, middles, larges, place);
-    match ranked {
-        Count::Is(r) => succ_by(bytes, middles, larges, place, r),
-        Count::Broken => Found::Broken,
+    // The place of the r-th one, counted from 1.
+    pub fn select(self, r: usize) -> Result<Option<usize>, Refusal>
+        ensures { found_number result ≡ select_of (areas_in self.entry) r }
+    {
+        if r == 0 || self.is_empty() {
+            return Ok(None);
+        }
+        let g = before(self.larges, r).saturating_sub(1);
+        self.select_large(r, g)
+    }
+
+    // The last one up to and at a place.
+    pub fn pred(self, place: usize) -> Result<Option<usize>, Refusal>
+        ensures { found_number result ≡ pred_of (areas_in self.entry) place }
+    {
+        self.select(self.rank(place)?)
+    }
+
+    // The first one at or after a place: the last one up to it if that is it, else the next.
+    pub fn succ(self, place: usize) -> Result<Option<usize>, Refusal>
+        ensures { found_number result ≡ succ_of (areas_in self.entry) place }
+    {
+        let r = self.rank(place)?;
+        if self.select(r)? == Some(place) {
+            return Ok(Some(place));
+        }
+        self.select(r.checked_add(1).ok_or(Refusal::Broken)?)
     }
 }

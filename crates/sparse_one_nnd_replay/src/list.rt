@@ -1,111 +1,95 @@
 // The places of the ones and the arguments of a case: numbers a and spans a:b.
+ghost use Rattle.std.specs.Prelude.{◌≡◌, ◌<◌, length, OnSome};
+
 use crate::text::{Entry, next_entry};
 
-// A list that was read: where the next field starts, how many numbers it has, and the last of them.
+// The numbers from the first up to before the second.
+#[derive(Clone, Copy, PartialEq, Eq, Debug)]
+struct Span {
+    start: usize,
+    end: usize,
+}
+
+impl Span {
+    fn of(entry: Entry) -> Span {
+        match entry {
+            Entry::One(a) => Span {
+                start: a,
+                end: a.wrapping_add(1),
+            },
+            Entry::Two(a, b) => Span {
+                start: a,
+                end: b.wrapping_add(1),
+            },
+            _ => Span { start: 0, end: 0 },
+        }
+    }
+}
+
+// A list as it is read: where its next entry starts, if it is not read to its end; how many numbers it has so far, and the last of them.
 #[derive(Clone, Copy)]
-pub struct Listed {
+pub struct Listed<'a> {
+    text: &'a [u8],
+    open: bool,
     pub next: usize,
     pub count: usize,
     pub last: usize,
 }
 
-// The numbers from the first up to before the second.
-#[derive(Clone, Copy)]
-pub struct Span(pub usize, pub usize);
-
-fn span_of(e: Entry) -> Span {
-    if let Entry::One(a) = e {
-        return Span(a, std::num::wrapping_add_usize(a, 1));
-    }
-    if let Entry::Two(a, b) = e {
-        return Span(a, std::num::wrapping_add_usize(b, 1));
-    }
-    Span(0, 0)
-}
-
-fn store_span(words: &mut [u64], a: usize, end: usize) {
-    let mut i = a;
-    while i < end {
-        words::store(words, i, true);
-        i += 1;
-    }
-}
-
-fn put_span(args: &mut [usize], at: usize, a: usize, end: usize) -> usize {
-    let mut k = at;
-    let mut i = a;
-    while i < end {
-        if args.len() <= k {
-            return k;
+impl<'a> Listed<'a> {
+    fn new(text: &'a [u8], at: usize) -> Listed<'a> {
+        Listed {
+            text,
+            open: true,
+            next: at,
+            count: 0,
+            last: 0,
         }
-        args[k] = i;
-        k += 1;
-        i += 1;
     }
-    k
-}
 
-fn longer(l: Listed, s: Span, next: usize) -> Listed {
-    if s.0 < s.1 {
-        return Listed {
-            next,
-            count: std::num::wrapping_add_usize(l.count, s.1 - s.0),
-            last: s.1 - 1,
-        };
-    }
-    Listed {
-        next,
-        count: l.count,
-        last: l.last,
+    // The span of the next entry. Each is a byte long or more, so the reading gets on.
+    fn read(&mut self) -> Option<Span>
+        ensures { OnSome result ((self.new.text ≡ self.old.text) × (self.old.next < length self.old.text.now) × (self.old.next < self.new.next)) }
+    {
+        if !self.open || self.text.len() <= self.next {
+            return None;
+        }
+        let read = next_entry(self.text, self.next);
+        let span = Span::of(read.entry);
+        if span.start < span.end {
+            self.count = self.count.wrapping_add(span.end - span.start);
+            self.last = span.end - 1;
+        }
+        self.open = read.stop == b' ';
+        self.next = read.next;
+        Some(span)
     }
 }
 
 // The ones of a case, stored in words.
-pub fn read_ones(text: &[u8], at: usize, words: &mut [u64]) -> Listed {
-    let mut l = Listed {
-        next: at,
-        count: 0,
-        last: 0,
-    };
-    let mut here = at;
-    while here < text.len() {
-        let read = next_entry(text, here);
-        let e = read.entry;
-        let s = span_of(e);
-        store_span(words, s.0, s.1);
-        l = longer(l, s, read.next);
-        if read.stop != b' ' {
-            return l;
+pub fn read_ones<'a>(text: &'a [u8], at: usize, words: &mut [u64]) -> Listed<'a> {
+    let mut list = Listed::new(text, at);
+    // Each reading goes on behind the last one, so no `for`.
+    while let Some(span) = list.read() {
+        for i in span.start..span.end {
+            words::store(words, i, true);
         }
-        if read.next <= here {
-            return l;
-        }
-        here = read.next;
     }
-    l
+    list
 }
 
-// The arguments of a case.
-pub fn read_args(text: &[u8], at: usize, args: &mut [usize]) -> Listed {
-    let mut l = Listed {
-        next: at,
-        count: 0,
-        last: 0,
-    };
-    let mut here = at;
-    while here < text.len() {
-        let read = next_entry(text, here);
-        let e = read.entry;
-        let s = span_of(e);
-        put_span(args, l.count, s.0, s.1);
-        l = longer(l, s, read.next);
-        if read.stop != b' ' {
-            return l;
+// The arguments of a case, as many as there is room for.
+pub fn read_args<'a>(text: &'a [u8], at: usize, args: &mut [usize]) -> Listed<'a> {
+    let mut list = Listed::new(text, at);
+    let mut free = 0;
+    // Each reading goes on behind the last one, so no `for`.
+    while let Some(span) = list.read() {
+        if let Some(rest) = args.get_mut(free..) {
+            for (arg, i) in rest.iter_mut().zip(span.start..span.end) {
+                *arg = i;
+            }
         }
-        if read.next <= here {
-            return l;
-        }
-        here = read.next;
+        free = list.count;
     }
-    l
+    list
 }

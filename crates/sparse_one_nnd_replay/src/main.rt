@@ -3,342 +3,193 @@
 // again. The input is testdata/dict.txt, whole.
 #![tactic(auto)]
 
-mod digest;
 mod list;
 mod text;
 mod want;
 
-use digest::digest;
 use list::{read_args, read_ones};
-use sparse_one_nnd::{Built, SparseOneNnd};
-use text::{Entry, key, next_entry, same};
-use want::{Case, answer, held, length, stops, there};
+use recorded::Digest;
+use refusal::Refusal;
+use sparse_one_nnd::{DictAreas, SparseOneNnd};
+use text::{Entry, Read, next_entry};
+use want::{Case, Field, ask};
 
-// Where the reading stands; how many answers were compared and how many were different; how many were asked of damaged areas and how many of those
-// are BROKEN.
+// How many answers were compared and how many were different; how many were asked of damaged areas and how many of those are BROKEN.
 #[derive(Clone, Copy)]
-struct Run {
-    at: usize,
+struct Tally {
     answers: u64,
     different: u64,
     damaged: u64,
     broken: u64,
 }
 
-fn moved(r: Run, at: usize) -> Run {
-    Run {
-        at,
-        answers: r.answers,
-        different: r.different,
-        damaged: r.damaged,
-        broken: r.broken,
-    }
-}
-
-// One more answer, as it should be or not.
-fn compared(r: Run, right: bool) -> Run {
-    let wrong: u64 = if right { 0 } else { 1 };
-    Run {
-        at: r.at,
-        answers: std::num::wrapping_add_u64(r.answers, 1),
-        different: std::num::wrapping_add_u64(r.different, wrong),
-        damaged: r.damaged,
-        broken: r.broken,
-    }
-}
-
-fn asked_damaged(r: Run, broken: bool) -> Run {
-    let one: u64 = if broken { 1 } else { 0 };
-    Run {
-        at: r.at,
-        answers: r.answers,
-        different: r.different,
-        damaged: std::num::wrapping_add_u64(r.damaged, 1),
-        broken: std::num::wrapping_add_u64(r.broken, one),
-    }
-}
-
-fn argument(args: &[usize], i: usize) -> usize {
-    if i < args.len() {
-        return args[i];
-    }
-    0
-}
-
-// Whether the record's entry of field f is right: at index x, or at argument x.
-fn right(
-    k: Case,
-    bytes: &[u8],
-    middles: &[u16],
-    larges: &[u64],
-    f: usize,
-    x: usize,
-    e: Entry,
-) -> bool {
-    if k.full {
-        return same(e, Entry::Stopped);
-    }
-    if f < 4 {
-        return same(e, held(k, bytes, middles, larges, f, x));
-    }
-    let ours = answer(k.counts, bytes, middles, larges, f, x);
-    if stops(k, f, x) {
-        if same(e, Entry::Stopped) {
-            return same(ours, there(k, f));
+impl Tally {
+    fn new() -> Tally {
+        Tally {
+            answers: 0,
+            different: 0,
+            damaged: 0,
+            broken: 0,
         }
-        return false;
     }
-    same(e, ours)
-}
 
-// One entry of field f, ended by the byte `stop`.
-fn compare(
-    text: &[u8],
-    r: Run,
-    k: Case,
-    bytes: &[u8],
-    middles: &[u16],
-    larges: &[u64],
-    f: usize,
-    x: usize,
-    stop: u8,
-) -> Run {
-    let got = next_entry(text, r.at);
-    let next = moved(r, got.next);
-    if got.stop != stop {
-        return compared(next, false);
+    // One more answer, as it should be or not.
+    fn compared(&mut self, right: bool) {
+        self.answers = self.answers.wrapping_add(1);
+        self.different = self.different.wrapping_add(u64::from(!right));
     }
-    let e = got.entry;
-    compared(next, right(k, bytes, middles, larges, f, x, e))
-}
 
-// The entries of field f, one after another.
-fn entries(
-    text: &[u8],
-    r: Run,
-    k: Case,
-    bytes: &[u8],
-    middles: &[u16],
-    larges: &[u64],
-    args: &[usize],
-    f: usize,
-) -> Run {
-    let n = length(k, f);
-    let last = if f == 7 { b'\n' } else { b'\t' };
-    let mut run = r;
-    let mut i: usize = 0;
-    while i < n {
-        let stop = if i + 1 == n { last } else { b' ' };
-        let x = if f < 4 { i } else { argument(args, i) };
-        run = compare(text, run, k, bytes, middles, larges, f, x, stop);
-        i += 1;
-    }
-    run
-}
-
-// Field f: an empty one, a digest, or its entries.
-fn field(
-    text: &[u8],
-    r: Run,
-    k: Case,
-    bytes: &[u8],
-    middles: &[u16],
-    larges: &[u64],
-    args: &[usize],
-    f: usize,
-) -> Run {
-    let first = next_entry(text, r.at);
-    let e = first.entry;
-    if let Entry::Digest(a, b) = e {
-        let n = length(k, f);
-        let d = digest(bytes, n);
-        return compared(
-            moved(r, first.next),
-            same(Entry::Digest(a, b), Entry::Digest(d.0, d.1 as usize)),
-        );
-    }
-    if let Entry::Empty = e {
-        return compared(moved(r, first.next), length(k, f) == 0);
-    }
-    entries(text, r, k, bytes, middles, larges, args, f)
-}
-
-fn fields(
-    text: &[u8],
-    r: Run,
-    k: Case,
-    bytes: &[u8],
-    middles: &[u16],
-    larges: &[u64],
-    args: &[usize],
-) -> Run {
-    let mut run = r;
-    let mut f: usize = 0;
-    while f < 8 {
-        run = field(text, run, k, bytes, middles, larges, args, f);
-        f += 1;
-    }
-    run
-}
-
-fn is_broken(e: Entry) -> bool {
-    let k = key(e);
-    k.0 == 6
-}
-
-// The four questions at one argument.
-fn ask_damaged(
-    r: Run,
-    c: SparseOneNnd,
-    bytes: &[u8],
-    middles: &[u16],
-    larges: &[u64],
-    x: usize,
-) -> Run {
-    let mut run = r;
-    run = asked_damaged(run, is_broken(answer(c, bytes, middles, larges, 4, x)));
-    run = asked_damaged(run, is_broken(answer(c, bytes, middles, larges, 5, x)));
-    run = asked_damaged(run, is_broken(answer(c, bytes, middles, larges, 6, x)));
-    asked_damaged(run, is_broken(answer(c, bytes, middles, larges, 7, x)))
-}
-
-// The first count byte is made 255.
-fn damage(bytes: &mut [u8]) {
-    if 0 < bytes.len() {
-        bytes[0] = 255;
+    fn asked_damaged(&mut self, broken: bool) {
+        self.damaged = self.damaged.wrapping_add(1);
+        self.broken = self.broken.wrapping_add(u64::from(broken));
     }
 }
 
-// A damaged dictionary, asked at every argument.
-fn damaged(r: Run, k: Case, bytes: &[u8], middles: &[u16], larges: &[u64], args: &[usize]) -> Run {
-    let mut run = r;
-    let mut i: usize = 0;
-    while i < k.args {
-        run = ask_damaged(run, k.counts, bytes, middles, larges, argument(args, i));
-        i += 1;
-    }
-    run
-}
-
-fn case_of(made: Built, ones: usize, last: usize, args: usize) -> Case {
-    let none = SparseOneNnd::empty();
-    match made {
-        Built::Made(counts) => Case {
-            ones,
-            last,
-            args,
-            full: false,
-            counts,
-        },
-        Built::Full(_) => Case {
-            ones,
-            last,
-            args,
-            full: true,
-            counts: none,
-        },
-        Built::Broken => Case {
-            ones,
-            last,
-            args,
-            full: false,
-            counts: none,
-        },
-        Built::Many(_) => Case {
-            ones,
-            last,
-            args,
-            full: false,
-            counts: none,
-        },
-        Built::Room(_) => Case {
-            ones,
-            last,
-            args,
-            full: false,
-            counts: none,
-        },
-    }
-}
-
-// A case as it was read: how many bits, ones and arguments, the last one, and where its answers start.
+// The reading of the text: where it stands, and what it told so far.
 #[derive(Clone, Copy)]
-struct Loaded {
-    bits: usize,
-    ones: usize,
-    last: usize,
-    args: usize,
-    next: usize,
+struct Run<'a> {
+    text: &'a [u8],
+    at: usize,
+    tally: Tally,
 }
 
-fn load(text: &[u8], at: usize, bits: usize, ws: &mut [u64], args: &mut [usize]) -> Loaded {
-    words::zero64(ws);
-    let ones = read_ones(text, at, ws);
-    let given = read_args(text, ones.next, args);
-    Loaded {
-        bits,
-        ones: ones.count,
-        last: ones.last,
-        args: given.count,
-        next: given.next,
+impl Run<'_> {
+    fn read(&mut self) -> Read {
+        let read = next_entry(self.text, self.at);
+        self.at = read.next;
+        read
     }
 }
 
-// The answers of a case, and then those of the damaged dictionary.
+// The digest of the first n bytes, which the record leaves out: the numbers in decimal, parted by spaces.
+fn digest(bytes: &[u8], n: usize) -> Entry {
+    let mut d = Digest::new();
+    for (i, &b) in bytes.iter().take(n).enumerate() {
+        if 0 < i {
+            d.feed(b' ');
+        }
+        d.feed_number(u64::from(b));
+    }
+    Entry::Digest(d.bytes as usize, d.h as usize)
+}
+
+// The entries of a field, one after another, each ended by a space, and the last by a tab or, in the last field, by a newline.
+fn entries(run: &mut Run<'_>, case: Case, areas: DictAreas<'_>, args: &[usize], field: Field) {
+    let n = case.length(field);
+    let last = if field == Field::Succ { b'\n' } else { b'\t' };
+    for i in 0..n {
+        let stop = if i + 1 == n { last } else { b' ' };
+        let x = if field.is_question() {
+            args.get(i).copied().unwrap_or(0)
+        } else {
+            i
+        };
+        let read = run.read();
+        let right = read.stop == stop && case.is_right(areas, field, x, read.entry);
+        run.tally.compared(right);
+    }
+}
+
+// A field: an empty one, a digest, or its entries.
+fn field(run: &mut Run<'_>, case: Case, areas: DictAreas<'_>, args: &[usize], field: Field) {
+    let first = next_entry(run.text, run.at);
+    let n = case.length(field);
+    match first.entry {
+        Entry::Digest(_, _) => {
+            run.at = first.next;
+            run.tally.compared(first.entry == digest(areas.bytes, n));
+        }
+        Entry::Empty => {
+            run.at = first.next;
+            run.tally.compared(n == 0);
+        }
+        _ => entries(run, case, areas, args, field),
+    }
+}
+
+// A damaged dictionary, asked the four questions at every argument.
+fn damaged(
+    run: &mut Run<'_>,
+    counts: SparseOneNnd,
+    areas: DictAreas<'_>,
+    args: &[usize],
+    n: usize,
+) {
+    for i in 0..n {
+        let x = args.get(i).copied().unwrap_or(0);
+        for &question in &Field::QUESTIONS {
+            let broken = ask(counts, areas, question, x).is_err();
+            run.tally.asked_damaged(broken);
+        }
+    }
+}
+
+// The answers of a case, and then, unless it is FULL, those of the damaged dictionary: its first count byte is made 255,
+// so the areas are lent one by one.
 fn check(
-    text: &[u8],
-    r: Run,
-    k: Case,
+    run: &mut Run<'_>,
+    case: Case,
     bytes: &mut [u8],
     middles: &[u16],
     larges: &[u64],
     args: &[usize],
-) -> Run {
-    let run = fields(text, r, k, bytes, middles, larges, args);
-    if k.full {
-        return run;
+) {
+    for &each in &Field::ALL {
+        let areas = DictAreas {
+            bytes,
+            middles,
+            larges,
+        };
+        field(run, case, areas, args, each);
     }
-    damage(bytes);
-    damaged(run, k, bytes, middles, larges, args)
-}
-
-// A case built and asked.
-fn tried(
-    text: &[u8],
-    r: Run,
-    l: Loaded,
-    ws: &[u64],
-    bytes: &mut [u8],
-    middles: &mut [u16],
-    larges: &mut [u64],
-    args: &[usize],
-) -> Run {
-    let made = SparseOneNnd::build(ws, l.bits, bytes, middles, larges);
-    let k = case_of(made, l.ones, l.last, l.args);
-    check(text, moved(r, l.next), k, bytes, middles, larges, args)
+    let Some(counts) = case.counts else {
+        return;
+    };
+    if let Some(first) = bytes.first_mut() {
+        *first = 255;
+    }
+    let areas = DictAreas {
+        bytes,
+        middles,
+        larges,
+    };
+    damaged(run, counts, areas, args, case.args);
 }
 
 // One line: its kind, the length, the ones, the arguments, and the answers.
 fn line(
-    text: &[u8],
-    r: Run,
+    run: &mut Run<'_>,
     ws: &mut [u64],
     bytes: &mut [u8],
     middles: &mut [u16],
     larges: &mut [u64],
     args: &mut [usize],
-) -> Run {
-    let kind = next_entry(text, r.at);
-    let size = next_entry(text, kind.next);
-    let n = size.entry;
-    let Entry::One(bits) = n else {
-        return compared(moved(r, text.len()), false);
+) {
+    run.read();
+    let Entry::One(bits) = run.read().entry else {
+        run.at = run.text.len();
+        run.tally.compared(false);
+        return;
     };
-    let l = load(text, size.next, bits, ws, args);
-    tried(text, r, l, ws, bytes, middles, larges, args)
+    ws.fill(0);
+    let ones = read_ones(run.text, run.at, ws);
+    let given = read_args(run.text, ones.next, args);
+    run.at = given.next;
+    let counts = match SparseOneNnd::build(ws, bits, bytes, middles, larges) {
+        Ok(counts) => Some(counts),
+        Err(Refusal::Full(_, _)) => None,
+        Err(_) => Some(SparseOneNnd::empty()),
+    };
+    let case = Case {
+        ones: ones.count,
+        last: ones.last,
+        args: given.count,
+        counts,
+    };
+    check(run, case, bytes, middles, larges, args);
 }
 
-// All lines. A line is never empty, so the reading gets on.
+// All lines. A line is never empty, so the reading gets on. The step is a line's length, so this is no `for`.
 fn replay(
     text: &[u8],
     ws: &mut [u64],
@@ -346,23 +197,22 @@ fn replay(
     middles: &mut [u16],
     larges: &mut [u64],
     args: &mut [usize],
-) -> Run {
+) -> Tally {
     let mut run = Run {
+        text,
         at: 0,
-        answers: 0,
-        different: 0,
-        damaged: 0,
-        broken: 0,
+        tally: Tally::new(),
     };
     let mut at = 0;
     while at < text.len() {
-        run = line(text, run, ws, bytes, middles, larges, args);
+        line(&mut run, ws, bytes, middles, larges, args);
         if run.at <= at {
-            return compared(run, false);
+            run.tally.compared(false);
+            return run.tally;
         }
         at = run.at;
     }
-    run
+    run.tally
 }
 
 fn main() {
@@ -373,7 +223,7 @@ fn main() {
     let mut larges = [0u64; 32];
     let mut args = [0usize; 256];
     let n = io::read_full(0, &mut text);
-    let run = replay(
+    let tally = replay(
         &text[..n],
         &mut ws,
         &mut bytes,
@@ -382,12 +232,12 @@ fn main() {
         &mut args,
     );
     io::write_all(1, b"sparse_one_nnd: ");
-    io::print_decimal(1, run.answers);
+    io::print_decimal(1, tally.answers);
     io::write_all(1, b" answers, ");
-    io::print_decimal(1, run.different);
+    io::print_decimal(1, tally.different);
     io::write_all(1, b" different; on damaged areas ");
-    io::print_decimal(1, run.damaged);
+    io::print_decimal(1, tally.damaged);
     io::write_all(1, b" answers, ");
-    io::print_decimal(1, run.broken);
+    io::print_decimal(1, tally.broken);
     io::write_all(1, b" BROKEN\n");
 }

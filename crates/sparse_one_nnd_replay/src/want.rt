@@ -1,6 +1,78 @@
 // What the record should have for a case: the dictionary's entries, and its answers at each argument.
-use crate::text::{Entry, wide};
-use sparse_one_nnd::{Count, Found, SparseOneNnd};
+use crate::text::Entry;
+use refusal::Refusal;
+use sparse_one_nnd::{DictAreas, SparseOneNnd};
+
+// The fields of a line: the bytes, the middle and the large entries, the byte size, and the answers to the four questions.
+#[derive(Clone, Copy, PartialEq, Eq, Debug)]
+pub enum Field {
+    Bytes,
+    Middles,
+    Larges,
+    Size,
+    Rank,
+    Select,
+    Pred,
+    Succ,
+}
+
+impl Field {
+    pub const QUESTIONS: [Field; 4] = [Field::Rank, Field::Select, Field::Pred, Field::Succ];
+
+    pub const ALL: [Field; 8] = [
+        Field::Bytes,
+        Field::Middles,
+        Field::Larges,
+        Field::Size,
+        Field::Rank,
+        Field::Select,
+        Field::Pred,
+        Field::Succ,
+    ];
+
+    pub fn is_question(self) -> bool {
+        matches!(
+            self,
+            Field::Rank | Field::Select | Field::Pred | Field::Succ
+        )
+    }
+}
+
+// A question at x.
+pub fn ask(
+    counts: SparseOneNnd,
+    areas: DictAreas<'_>,
+    question: Field,
+    x: usize,
+) -> Result<Option<usize>, Refusal> {
+    match question {
+        Field::Select => counts.select_one(areas, x),
+        Field::Pred => counts.pred_one(areas, x),
+        Field::Succ => counts.succ_one(areas, x),
+        Field::Rank => Ok(Some(counts.rank_one(areas, x)?)),
+        _ => Ok(Some(counts.byte_size()?)),
+    }
+}
+
+// Entry i of a field of entries, or what is asked at i.
+fn entry(counts: SparseOneNnd, areas: DictAreas<'_>, field: Field, i: usize) -> Option<Entry> {
+    match field {
+        Field::Bytes => Some(Entry::One(usize::from(*areas.bytes.get(i)?))),
+        Field::Middles => {
+            let [at, rank] = *areas.middles.as_chunks::<2>().0.get(i)?;
+            Some(Entry::Two(usize::from(at), usize::from(rank)))
+        }
+        Field::Larges => {
+            let [at, rank] = *areas.larges.as_chunks::<2>().0.get(i)?;
+            Some(Entry::Two(at as usize, rank as usize))
+        }
+        _ => match ask(counts, areas, field, i) {
+            Ok(Some(place)) => Some(Entry::One(place)),
+            Ok(None) => Some(Entry::Nothing),
+            Err(_) => None,
+        },
+    }
+}
 
 // A case: how many ones there are and the last of them, how many arguments, and the counts that the build answered, if it was not FULL.
 #[derive(Clone, Copy)]
@@ -8,131 +80,52 @@ pub struct Case {
     pub ones: usize,
     pub last: usize,
     pub args: usize,
-    pub full: bool,
-    pub counts: SparseOneNnd,
+    pub counts: Option<SparseOneNnd>,
 }
 
-// How many entries field f has. Fields 0 to 2 are the bytes, middle and large entries, 3 the byte size, 4 to 7 the answers of rank_one, select_one,
-// pred_one and succ_one.
-pub fn length(k: Case, f: usize) -> usize {
-    if 4 <= f {
-        return k.args;
-    }
-    if k.full {
-        return 1;
-    }
-    let c = k.counts;
-    if f == 0 {
-        return c.bytes;
-    }
-    if f == 1 {
-        return c.middles;
-    }
-    if f == 2 {
-        return c.larges;
-    }
-    1
-}
-
-fn wide16(x: u16) -> usize {
-    x as usize
-}
-
-fn byte_at(bytes: &[u8], i: usize) -> Entry {
-    if i < bytes.len() {
-        return Entry::One(wide(bytes[i]));
-    }
-    Entry::Other
-}
-
-fn middle_at(middles: &[u16], i: usize) -> Entry {
-    if i < middles.len() / 2 {
-        return Entry::Two(wide16(middles[2 * i]), wide16(middles[2 * i + 1]));
-    }
-    Entry::Other
-}
-
-fn large_at(larges: &[u64], i: usize) -> Entry {
-    if i < larges.len() / 2 {
-        return Entry::Two(larges[2 * i] as usize, larges[2 * i + 1] as usize);
-    }
-    Entry::Other
-}
-
-pub fn counted(a: Count) -> Entry {
-    match a {
-        Count::Is(r) => Entry::One(r),
-        Count::Broken => Entry::Other,
-    }
-}
-
-pub fn found(a: Found) -> Entry {
-    match a {
-        Found::At(i) => Entry::One(i),
-        Found::Nothing => Entry::Nothing,
-        Found::Broken => Entry::Other,
-    }
-}
-
-// The entry of field 0 to 3 at i.
-pub fn held(k: Case, bytes: &[u8], middles: &[u16], larges: &[u64], f: usize, i: usize) -> Entry {
-    if f == 0 {
-        return byte_at(bytes, i);
-    }
-    if f == 1 {
-        return middle_at(middles, i);
-    }
-    if f == 2 {
-        return large_at(larges, i);
-    }
-    let c = k.counts;
-    counted(c.byte_size())
-}
-
-// The answer of field 4 to 7 at x.
-pub fn answer(
-    c: SparseOneNnd,
-    bytes: &[u8],
-    middles: &[u16],
-    larges: &[u64],
-    f: usize,
-    x: usize,
-) -> Entry {
-    if f == 4 {
-        return counted(c.rank_one(bytes, middles, larges, x));
-    }
-    if f == 5 {
-        return found(c.select_one(bytes, middles, larges, x));
-    }
-    if f == 6 {
-        return found(c.pred_one(bytes, middles, larges, x));
-    }
-    found(c.succ_one(bytes, middles, larges, x))
-}
-
-// Whether the original stops there: a dictionary without entries, or a place past the last one's block. Select of 0 it answers.
-pub fn stops(k: Case, f: usize, x: usize) -> bool {
-    if f == 5 {
-        if x == 0 {
-            return false;
+impl Case {
+    // How many entries a field has.
+    pub fn length(self, field: Field) -> usize {
+        if field.is_question() {
+            return self.args;
         }
-        return k.ones == 0;
-    }
-    if k.ones == 0 {
-        return true;
-    }
-    k.last / 256 < x / 256
-}
-
-// What 01 answers there: the total, the last one or nothing.
-pub fn there(k: Case, f: usize) -> Entry {
-    if f == 4 {
-        return Entry::One(k.ones);
-    }
-    if f == 6 {
-        if 0 < k.ones {
-            return Entry::One(k.last);
+        let Some(counts) = self.counts else {
+            return 1;
+        };
+        match field {
+            Field::Bytes => counts.bytes,
+            Field::Middles => counts.middles,
+            Field::Larges => counts.larges,
+            _ => 1,
         }
     }
-    Entry::Nothing
+
+    // Whether the original stops there: a dictionary without entries, or a place past the last one's block. Select of 0 it answers.
+    fn stops(self, question: Field, x: usize) -> bool {
+        match question {
+            Field::Select => self.ones == 0 && x != 0,
+            _ => self.ones == 0 || self.last / 256 < x / 256,
+        }
+    }
+
+    // What 01 answers there: the total, the last one or nothing.
+    fn there(self, question: Field) -> Entry {
+        match question {
+            Field::Rank => Entry::One(self.ones),
+            Field::Pred if self.ones != 0 => Entry::One(self.last),
+            _ => Entry::Nothing,
+        }
+    }
+
+    // Whether the record's entry of a field is right: at index x, or at argument x.
+    pub fn is_right(self, areas: DictAreas<'_>, field: Field, x: usize, recorded: Entry) -> bool {
+        let Some(counts) = self.counts else {
+            return recorded == Entry::Stopped;
+        };
+        let ours = entry(counts, areas, field, x);
+        if field.is_question() && self.stops(field, x) {
+            return recorded == Entry::Stopped && ours == Some(self.there(field));
+        }
+        ours == Some(recorded)
+    }
 }

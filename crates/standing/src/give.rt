@@ -1,163 +1,115 @@
 // Lines that give what stands: areas, elements, the record, the lists.
-use crate::block::{
-    LABELS, LEVELS, MOST_BYTES, MOST_LABELS, MOST_LARGES, MOST_LISTED, MOST_MIDDLES, MOST_SCRATCH,
-    MOST_WORDS, end_of, fresh, length_of, set_length, set_value, start_of,
+use crate::{
+    MOST_BYTES, MOST_LABELS, MOST_LARGES, MOST_MIDDLES, MOST_SCRATCH, MOST_TOGETHER, MOST_WORDS,
+    Standing,
 };
-use asking::fill::{Filled, at_end, done, element, fill_all, stopped};
-use asking::items::{Item, Items, list_at};
-use asking::read::{behind, is_word, number};
-use asking::{Answer, Fault};
-use std::num::wrapping_add_usize;
-
-// Whether no area is longer than it may be.
-fn short(sizes: [usize; 6]) -> bool {
-    sizes[0] <= MOST_WORDS
-        && sizes[1] <= MOST_BYTES
-        && sizes[2] <= MOST_MIDDLES
-        && sizes[3] <= MOST_LARGES
-        && sizes[4] <= MOST_LABELS
-        && sizes[5] <= MOST_SCRATCH
-}
+use arrayvec::ArrayVec;
+use asking::Fault;
+use asking::items::{Items, fill, numbers};
+use asking::read::{number, word};
+use record::Counts;
 
 // `areas a b c d e f`
-fn areas_line(line: &[u8], state: &mut [u64]) -> Answer {
-    let mut sizes = [0usize; 6];
-    let all = fill_all(line, list_at(behind(line, 0)), &mut sizes);
-    if !all {
-        return Answer::Bad(Fault::Number);
+fn give_areas(text: &[u8], s: &mut Standing) -> Result<(), Fault> {
+    let sizes: [usize; 6] = numbers(text)?;
+    let most = [
+        MOST_WORDS,
+        MOST_BYTES,
+        MOST_MIDDLES,
+        MOST_LARGES,
+        MOST_LABELS,
+        MOST_SCRATCH,
+    ];
+    let mut left = MOST_TOGETHER;
+    for (n, most) in sizes.iter().zip(most) {
+        if most < *n {
+            return Err(Fault::Large);
+        }
+        left = left.checked_sub(*n).ok_or(Fault::Large)?;
     }
-    if !short(sizes) || state.len() < end_of(sizes) {
-        return Answer::Bad(Fault::Large);
-    }
-    fresh(state, sizes);
-    Answer::Done
+    s.renew(sizes);
+    Ok(())
 }
 
-// Numbers up to `most` of a line into the block's words of a range.
-fn fill(
-    line: &[u8],
-    list: Items,
-    state: &mut [u64],
-    from: usize,
-    upto: usize,
-    most: usize,
-) -> Filled {
-    let mut s = list;
-    let mut i = from;
-    while i < upto {
-        let item = element(line, s, most);
-        let Item::Is(v, rest) = item else {
-            return stopped(item, i);
-        };
-        set_value(state, i, v);
-        s = rest;
-        i += 1;
-    }
-    at_end(line, s, i)
-}
-
-// The greatest number that is an element of an area.
-fn greatest(k: usize) -> usize {
-    match k {
-        1 => 255,
-        2 => 65535,
-        4 => 4294967295,
-        _ => 18446744073709551615,
-    }
-}
-
-fn lesser(a: usize, b: usize) -> usize {
-    if a < b {
-        return a;
-    }
-    b
+// The numbers of a list into an area from a place on.
+fn put<T: TryFrom<usize> + Drop>(text: &[u8], area: &mut [T], at: usize) -> Result<(), Fault>
+where
+    T::Error: Drop,
+{
+    let from = at.min(area.len());
+    fill(&mut Items::new(text), &mut area[from..])
 }
 
 // `put K AT v..`
-fn put_line(line: &[u8], state: &mut [u64]) -> Answer {
-    let k = number(line, behind(line, 0));
-    let at = number(line, k.next);
-    if !k.good || !at.good {
-        return Answer::Bad(Fault::Number);
-    }
-    if 5 < k.value {
-        return Answer::Bad(Fault::Words);
-    }
-    let start = start_of(state, k.value);
-    let n = length_of(state, k.value);
-    let from = wrapping_add_usize(start, lesser(at.value, n));
-    let upto = wrapping_add_usize(start, n);
-    let list = list_at(at.next);
-    done(fill(line, list, state, from, upto, greatest(k.value)))
-}
-
-// The record's numbers to the block's front.
-fn set_record(state: &mut [u64], r: [usize; 18]) {
-    let mut i: usize = 0;
-    while i < 18 {
-        set_value(state, i, r[i]);
-        i += 1;
+fn put_line(text: &[u8], s: &mut Standing) -> Result<(), Fault> {
+    let (k, behind) = number(text)?;
+    let (at, list) = number(behind)?;
+    match k {
+        0 => put(list, s.tree.words.as_mut_slice(), at),
+        1 => put(list, s.tree.bytes.as_mut_slice(), at),
+        2 => put(list, s.tree.middles.as_mut_slice(), at),
+        3 => put(list, s.tree.larges.as_mut_slice(), at),
+        4 => put(list, s.tree.labels.as_mut_slice(), at),
+        5 => put(list, s.scratch.as_mut_slice(), at),
+        _ => Err(Fault::Words),
     }
 }
 
 // `record r..`
-fn record_line(line: &[u8], state: &mut [u64]) -> Answer {
-    let mut r = [0usize; 18];
-    let all = fill_all(line, list_at(behind(line, 0)), &mut r);
-    if !all {
-        return Answer::Bad(Fault::Number);
-    }
-    set_record(state, r);
-    Answer::Done
+fn give_record(text: &[u8], s: &mut Standing) -> Result<(), Fault> {
+    let r: [usize; 18] = numbers(text)?;
+    s.tree.counts = Counts {
+        nodes: r[0],
+        bits: [r[1], r[2], r[3], r[4], r[5]],
+        bytes: [r[6], r[7], r[8], r[9]],
+        middles: [r[10], r[11], r[12], r[13]],
+        larges: [r[14], r[15], r[16], r[17]],
+    };
+    Ok(())
 }
 
 // `length n`
-fn length_line(line: &[u8], state: &mut [u64]) -> Answer {
-    let n = number(line, behind(line, 0));
-    if !n.good || n.next != line.len() {
-        return Answer::Bad(Fault::Number);
+fn give_length(text: &[u8], s: &mut Standing) -> Result<(), Fault> {
+    let (n, rest) = number(text)?;
+    if !rest.is_empty() {
+        return Err(Fault::Number);
     }
-    set_value(state, 1, n.value);
-    Answer::Done
+    s.tree.counts.bits[0] = n;
+    Ok(())
 }
 
-// How long a list is after it was filled: a list that is no list is empty.
-fn filled(f: Filled, start: usize) -> usize {
-    match f {
-        Filled::Upto(end) => std::num::wrapping_sub_usize(end, start),
-        Filled::Bad(_) => 0,
+// The numbers of a list, as many as there are.
+fn collect<const N: usize>(text: &[u8], list: &mut ArrayVec<u32, N>) -> Result<(), Fault> {
+    let mut items = Items::new(text);
+    list.clear();
+    for _ in 0..N {
+        let Some(n) = items.next()? else {
+            return Ok(());
+        };
+        let _ = list.try_push(u32::try_from(n).map_err(|_| Fault::Number)?);
     }
+    items.end()
 }
 
-// `levels v..` and `labels v..`
-fn list_line(line: &[u8], state: &mut [u64], k: usize) -> Answer {
-    let start = start_of(state, k);
-    let upto = wrapping_add_usize(start, MOST_LISTED);
-    let list = list_at(behind(line, 0));
-    let f = fill(line, list, state, start, upto, 4294967295);
-    set_length(state, k, filled(f, start));
-    done(f)
+// `levels v..` and `labels v..`: a list that is no list is empty.
+fn give_list<const N: usize>(text: &[u8], list: &mut ArrayVec<u32, N>) -> Result<(), Fault> {
+    let given = collect(text, list);
+    if given.is_err() {
+        list.clear();
+    }
+    given
 }
 
-// A line that gives what stands; any other is none.
-pub fn give_line(line: &[u8], state: &mut [u64]) -> Answer {
-    if is_word(line, 0, b"areas") {
-        return areas_line(line, state);
+// A line that gives what stands, if it is one.
+pub fn give(line: &[u8], s: &mut Standing) -> Option<Result<(), Fault>> {
+    let (first, rest) = word(line);
+    match first {
+        b"areas" => Some(give_areas(rest, s)),
+        b"put" => Some(put_line(rest, s)),
+        b"levels" => Some(give_list(rest, &mut s.levels)),
+        b"labels" => Some(give_list(rest, &mut s.labels)),
+        b"record" => Some(give_record(rest, s)),
+        b"length" => Some(give_length(rest, s)),
+        _ => None,
     }
-    if is_word(line, 0, b"put") {
-        return put_line(line, state);
-    }
-    if is_word(line, 0, b"levels") {
-        return list_line(line, state, LEVELS);
-    }
-    if is_word(line, 0, b"labels") {
-        return list_line(line, state, LABELS);
-    }
-    if is_word(line, 0, b"record") {
-        return record_line(line, state);
-    }
-    if is_word(line, 0, b"length") {
-        return length_line(line, state);
-    }
-    Answer::Bad(Fault::Words)
 }

@@ -1,75 +1,53 @@
 // `show`: an area, a list or the record.
-use crate::block::{length_of, start_of, value};
-use asking::put::{put_answer, put_entry};
-use asking::read::{Field, behind, is_word, number};
+use crate::Standing;
+use asking::out::Out;
+use asking::read::{number, word};
 use asking::{Answer, Fault};
-use std::num::wrapping_add_usize;
+use record::Counts;
 
-// The record: the block's first 18 numbers.
-fn show_record(state: &[u64], out: &mut [u8], at: usize) -> usize {
-    let mut o = at;
-    let mut i: usize = 0;
-    while i < 18 {
-        o = put_entry(out, o, i == 0, Answer::Number(value(state, i)));
-        i += 1;
-    }
-    o
-}
-
-// Of the n elements from a place on, how many there are up to the last that is not zero.
-fn used(state: &[u64], from: usize, n: usize) -> usize {
-    let mut m = n;
-    while 0 < m {
-        if value(state, wrapping_add_usize(from, m - 1)) != 0 {
-            return m;
-        }
-        m -= 1;
-    }
-    0
-}
-
-// The n elements from a place on, each with a space before it.
-fn elements(state: &[u64], from: usize, n: usize, out: &mut [u8], at: usize) -> usize {
-    let mut o = at;
-    let mut i: usize = 0;
-    while i < n {
-        let v = value(state, wrapping_add_usize(from, i));
-        o = put_entry(out, o, false, Answer::Number(v));
-        i += 1;
-    }
-    o
-}
-
-fn show_region(state: &[u64], k: usize, out: &mut [u8], at: usize) -> usize {
-    let start = start_of(state, k);
-    let n = length_of(state, k);
-    let o = put_answer(out, at, Answer::Number(n));
-    elements(state, start, used(state, start, n), out, o)
-}
-
-// The region that `show K` means; 8 is none.
-fn region_of(f: Field) -> usize {
-    if !f.good {
-        return 8;
-    }
-    let k = f.value;
-    match k {
-        0..=5 => k,
-        10 => 6,
-        11 => 7,
-        _ => 8,
+// The record's 18 numbers.
+fn show_record(c: &Counts, out: &mut Out) {
+    out.answer(c.nodes.into());
+    for n in c
+        .bits
+        .iter()
+        .chain(c.bytes.iter())
+        .chain(c.middles.iter())
+        .chain(c.larges.iter())
+    {
+        out.entry(false, Answer::from(*n));
     }
 }
 
-pub fn show_line(line: &[u8], state: &[u64], out: &mut [u8], at: usize) -> usize {
-    let from = behind(line, 0);
-    if is_word(line, from, b"record") {
-        return show_record(state, out, at);
+// How many elements there are, and they up to the last that is not zero. Each is read as a u64, and cast: std has no `From<u32>` for usize.
+fn show_area<T: Copy + Into<u64>>(area: &[T], out: &mut Out) {
+    out.answer(area.len().into());
+    let last = area.iter().rposition(|e| {
+        let n: u64 = (*e).into();
+        n != 0
+    });
+    let Some(last) = last else {
+        return;
+    };
+    for element in &area[..last + 1] {
+        let n: u64 = (*element).into();
+        out.entry(false, Answer::Number(n as usize));
     }
-    let f = number(line, from);
-    let k = region_of(f);
-    if 7 < k || f.next != line.len() {
-        return put_answer(out, at, Answer::Bad(Fault::Number));
+}
+
+pub fn show(text: &[u8], s: &Standing, out: &mut Out) {
+    if let (b"record", _) = word(text) {
+        return show_record(&s.tree.counts, out);
     }
-    show_region(state, k, out, at)
+    match number(text) {
+        Ok((0, [])) => show_area(s.tree.words.as_slice(), out),
+        Ok((1, [])) => show_area(s.tree.bytes.as_slice(), out),
+        Ok((2, [])) => show_area(s.tree.middles.as_slice(), out),
+        Ok((3, [])) => show_area(s.tree.larges.as_slice(), out),
+        Ok((4, [])) => show_area(s.tree.labels.as_slice(), out),
+        Ok((5, [])) => show_area(s.scratch.as_slice(), out),
+        Ok((10, [])) => show_area(s.levels.as_slice(), out),
+        Ok((11, [])) => show_area(s.labels.as_slice(), out),
+        _ => out.answer(Answer::Bad(Fault::Number)),
+    }
 }

@@ -7,7 +7,7 @@ use Rattle.walk.proofs.walk.Reads as walk
 use Rattle.walk.proofs.walk.Kinds as walk_kinds
 
 pub walk_determined : Determined _ walk_kinds.ps walk_kinds.r walk.Asked walk.Learnt
-    (List ℕ × List ℕ × List ℕ) (λ κs e. (e.1.1.1.1.1.1.0.now, e.1.1.1.1.1.1.1.0.now, e.1.1.1.1.1.1.1.1.0.now))
+    (List ℕ × List ℕ × List ℕ) (λ κs e. (e.1.0.now, e.1.1.0.now, e.1.1.1.0.now))
 walk_determined =
     record {
       asks_nothing = λ κs a. tt;

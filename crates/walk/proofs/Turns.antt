@@ -1,7 +1,7 @@
 -- The walk's loop: after some nodes the lists hold what they are told, and the rest of the walk is the walk from the path in scratch.
 use mathlib.Core.Path.{◌≡◌, refl, sym, ap, ap₂, ◌∙◌}
 use mathlib.Core.List.{List, [], ◌∷◌, ◌++◌, map, append-nil, append_assoc}
-use Prim.Native.Nat.{ℕ, suc, pred, ◌+◌, ◌*◌, ◌-◌, ◌^◌, ◌≤◌, ◌<◌}
+use Prim.Native.Nat.{ℕ, zero, suc, pred, ◌+◌, ◌*◌, ◌-◌, ◌^◌, ◌≤◌, ◌<◌}
 use native.Mathlib.Omega.{arith}
 use lib.ListN.{length, replicate, set, length-append, length-set}
 use Rattle.meaning.specs.Answers.{Answer, is, nothing, refused, broken}
@@ -12,16 +12,14 @@ use Rattle.meaning.specs.Build.{Tree, Lent}
 use Rattle.meaning.specs.Walking as walking
 use Rattle.meaning.specs.Walking.{WalkRooms, onward_by, told_first, walk_by, unwalked, walked_by}
 use Rattle.meaning.proofs.Onward.{onward_length, walk_end, walk_refused, walk_deep, walk_many, walk_on}
-use Rattle.questions.specs.declared.Node as code
-use Rattle.questions.specs.declared.Refusal.{Refusal}
-use Rattle.questions.specs.declared.Refusal.TheVariants as refusal
-use Rattle.questions.specs.Said.{node_of, refusal_of}
+use Rattle.std.specs.Prelude.{Option, None, Some, Result, Ok, Err}
+use Rattle.refusal.specs.declared.Refusal.{Refusal}
+use Rattle.refusal.specs.Said.{refusal_of}
+use Rattle.questions.specs.Said.{node_of}
 use Rattle.walk.specs.declared.onward.Step.{Step}
-use Rattle.walk.specs.declared.onward.Step.TheVariants as step
-use Rattle.walk.specs.declared.Walked.TheVariants as answer
 use Rattle.walk.specs.Kept.{way_in, put_in, step_in}
-use Rattle.walk.specs.Said.{said, rooms_at}
-use Rattle.walk.specs.Told.{Roomy, Tellable, ToldIs, ended}
+use Rattle.walk.specs.Said.{rooms_at}
+use Rattle.walk.specs.Told.{Roomy, ended}
 use Rattle.walk.proofs.Paths.{way_length, way_put, put_length}
 
 -- what the walk comes to, with the levels vs and the labels bs told before
@@ -69,6 +67,10 @@ set_filled n vs v h =
     let k : ℕ = n - length (vs ++ v ∷ []) in
     let e : n - length vs ≡ suc k = omega (arith, length-append vs (v ∷ [])) in
     ap (λ j. set (vs ++ replicate j 0) (length vs) v) e ∙ set_front vs v k
+
+one_less : (k : ℕ) → k - 1 ≡ pred k
+one_less zero = omega arith
+one_less (suc k) = omega arith
 
 -- where the walk stands: lists L and B, scratch S, a path of `on` nodes, and `told` nodes in the lists
 pub record Met (t : Tree) (a : Lent) (n : ℕ) (L₀ B₀ S₀ L B S : List ℕ) (on told : ℕ) : Type 0 where
@@ -122,7 +124,7 @@ module _ (t : Tree) (a : Lent) (n : ℕ) where
       long : length S ≡ length s
       long = ap length f ∙ put_length s 0 m
 
-  module _ (L₀ B₀ S₀ L B S : List ℕ) (on told : ℕ) (i : Met t a n L₀ B₀ S₀ L B S on told) (r : Step) (q : step_in S r ≡ onward_by t a (way_in S on)) where
+  module _ (L₀ B₀ S₀ L B S : List ℕ) (on told : ℕ) (i : Met t a n L₀ B₀ S₀ L B S on told) (r : Result (Option Step) Refusal) (q : step_in S r ≡ onward_by t a (way_in S on)) where
     abbrev All : walking.Walked
     All = walked_by (rooms_at L B S) (walk_by t a n (root ∷ []))
 
@@ -137,57 +139,61 @@ module _ (t : Tree) (a : Lent) (n : ℕ) where
         ∙ i.rest
         ∙ ap (λ w. walked_by w (walk_by t a n (root ∷ []))) (sym rooms_same)
 
-    pub end_none : r ≡ step.Nothing → ended (said (answer.Is told)) L B S ≡ All
-    unfolding ended step_in after
-    end_none e =
+    pub end_none : (y : Option Step) → r ≡ Ok y → y ≡ None → ended (is told) L B S ≡ All
+    unfolding ended after
+    end_none y f g =
+        let e : r ≡ Ok None = f ∙ ap Ok g in
         same_walked (rooms_at L B S) told (length i.levels + 0) L (filled (length L) (i.levels ++ [])) B (filled (length B) (i.labels ++ []))
         (omega (arith, i.these_levels))
         (i.in_levels ∙ ap₂ filled (sym i.levels_length) (sym (append-nil i.levels)))
         (i.in_labels ∙ ap₂ filled (sym i.labels_length) (sym (append-nil i.labels)))
         ∙ ends (is []) (walk_end t a (n - told) (way_in S on) (sym q ∙ ap (step_in S) e))
 
-    pub end_refused : (x : Refusal) → r ≡ step.Refused x → ended (said (answer.Refused x)) L B S ≡ All
-    unfolding ended step_in after
+    pub end_refused : (x : Refusal) → r ≡ Err x → ended (refused (refusal_of x)) L B S ≡ All
+    unfolding ended after
     end_refused x e =
         ends (refused (refusal_of x)) (walk_refused t a (n - told) (way_in S on) (refusal_of x) (sym q ∙ ap (step_in S) e))
 
-    module _ (k : ℕ) (m : code.Node) (b : ℕ) (e : r ≡ step.To k m b) where
-      to : onward_by t a (way_in S on) ≡ is (record { path = node_of m ∷ way_in S k; label = b })
-      unfolding step_in
-      to = sym q ∙ ap (step_in S) e
+    module _ (y : Option Step) (u : r ≡ Ok y) (o : Step) (v : y ≡ Some o) where
+      abbrev k : ℕ
+      k = o.under
+
+      abbrev m : Node
+      m = node_of o.edge.node
+
+      abbrev b : ℕ
+      b = o.edge.label
+
+      to : onward_by t a (way_in S on) ≡ is (record { path = m ∷ way_in S k; label = b })
+      to = sym q ∙ ap (step_in S) (u ∙ ap Ok v)
 
       short : k ≤ on
-      short = omega (arith, onward_length t a (way_in S on) (record { path = node_of m ∷ way_in S k; label = b }) to, way_length S on, way_length S k)
+      short = omega (arith, onward_length t a (way_in S on) (record { path = m ∷ way_in S k; label = b }) to, way_length S on, way_length S k)
 
-      pub end_many : told ≡ n → ended (said (answer.Refused refusal.Broken)) L B S ≡ All
+      pub end_many : told ≡ n → ended (refused broken) L B S ≡ All
       unfolding ended after
       end_many f =
           ends (refused broken)
-          (ap (λ j. walk_by t a j (way_in S on)) {x = n - told} {y = 0} (omega arith) ∙ walk_many t a (node_of m) (way_in S k) b (way_in S on) to)
+          (ap (λ j. walk_by t a j (way_in S on)) {x = n - told} {y = 0} (omega arith) ∙ walk_many t a m (way_in S k) b (way_in S on) to)
 
-      pub end_deep : 2 ^ 32 < k → ended (said (answer.Refused refusal.Broken)) L B S ≡ All
+      pub end_deep : ¬ (k - 1 < 2 ^ 32) → ended (refused broken) L B S ≡ All
       unfolding ended after
       end_deep f =
-          ends (refused broken) (walk_deep t a (node_of m) (way_in S k) b (n - told) (way_in S on) to (omega (arith, way_length S k)))
+          let g : 2 ^ 32 < k = omega arith in
+          ends (refused broken) (walk_deep t a m (way_in S k) b (n - told) (way_in S on) to (omega (arith, way_length S k)))
 
-      module _ (f : ¬ (told ≡ n)) (d : k ≤ 2 ^ 32) where
-        pub tellable : Tellable told k L B S
-        tellable =
-            record {
-              levels = omega (arith, i.few, i.levels_room, i.levels_length);
-              labels = omega (arith, i.few, i.labels_room, i.labels_length);
-              scratch = omega (arith, i.few, i.path, i.scratch_room, i.scratch_length, short);
-              level = d;
-            }
+      module _ (f : ¬ (told ≡ n)) where
+        pub room_left : 2 * k + 1 < length S
+        room_left = omega (arith, i.few, i.path, i.scratch_room, i.scratch_length, short)
 
         -- one node more
-        pub more : (L' B' S' : List ℕ) → ToldIs told k (node_of m) b L B S L' B' S' → Met t a n L₀ B₀ S₀ L' B' S' (k + 1) (told + 1)
-        more L' B' S' w =
+        pub more : (v : ℕ) → k - 1 < 2 ^ 32 → v ≡ k - 1 → (S' : List ℕ) → S' ≡ put_in S k m → Met t a n L₀ B₀ S₀ (set L told v) (set B told b) S' (k + 1) (told + 1)
+        more v d e S' w =
             record {
               levels = i.levels ++ pred k ∷ [];
               labels = i.labels ++ b ∷ [];
-              in_levels = w.levels ∙ put L (length L₀) i.levels (pred k) i.in_levels i.these_levels (omega (arith, i.few, i.levels_room));
-              in_labels = w.labels ∙ put B (length B₀) i.labels b i.in_labels i.these_labels (omega (arith, i.few, i.labels_room));
+              in_levels = ap (set L told) level ∙ put L (length L₀) i.levels (pred k) i.in_levels i.these_levels (omega (arith, i.few, i.levels_room));
+              in_labels = put B (length B₀) i.labels b i.in_labels i.these_labels (omega (arith, i.few, i.labels_room));
               these_levels = omega (arith, i.these_levels, length-append i.levels (pred k ∷ []));
               these_labels = omega (arith, i.these_labels, length-append i.labels (b ∷ []));
               few = omega (arith, i.few);
@@ -195,26 +201,29 @@ module _ (t : Tree) (a : Lent) (n : ℕ) where
               levels_room = i.levels_room;
               labels_room = i.labels_room;
               scratch_room = i.scratch_room;
-              levels_length = ap length w.levels ∙ length-set L told (pred k) ∙ i.levels_length;
-              labels_length = ap length w.labels ∙ length-set B told b ∙ i.labels_length;
-              scratch_length = ap length w.scratch ∙ put_length S k (node_of m) ∙ i.scratch_length;
+              levels_length = length-set L told v ∙ i.levels_length;
+              labels_length = length-set B told b ∙ i.labels_length;
+              scratch_length = ap length w ∙ put_length S k m ∙ i.scratch_length;
               rest =
                   sym
-                  (after_told (rooms_at L₀ B₀ S₀) i.levels i.labels (node_of m) (way_in S k) b (walk_by t a (n - (told + 1)) (way_in S' (k + 1)))
+                  (after_told (rooms_at L₀ B₀ S₀) i.levels i.labels m (way_in S k) b (walk_by t a (n - (told + 1)) (way_in S' (k + 1)))
                   ∙ ap (λ v. after (rooms_at L₀ B₀ S₀) (i.levels ++ pred v ∷ []) (i.labels ++ b ∷ []) (walk_by t a (n - (told + 1)) (way_in S' (k + 1)))) (way_length S k))
                   ∙ ap (after (rooms_at L₀ B₀ S₀) i.levels i.labels) (sym on_by)
                   ∙ i.rest;
             }
           where
+            level : v ≡ pred k
+            level = e ∙ one_less k
+
             put : (xs : List ℕ) (j : ℕ) (vs : List ℕ) (v : ℕ) → xs ≡ filled j vs → told ≡ length vs → told < j → set xs told v ≡ filled j (vs ++ v ∷ [])
             put xs j vs v g h u = ap₂ (λ x y. set x y v) g h ∙ set_filled j vs v (omega arith)
 
-            on_by : walk_by t a (n - told) (way_in S on) ≡ told_first (node_of m) (way_in S k) b (walk_by t a (n - (told + 1)) (way_in S' (k + 1)))
+            on_by : walk_by t a (n - told) (way_in S on) ≡ told_first m (way_in S k) b (walk_by t a (n - (told + 1)) (way_in S' (k + 1)))
             on_by =
                 let one : n - told ≡ suc (n - (told + 1)) = omega (arith, i.few) in
-                let way : node_of m ∷ way_in S k ≡ way_in S' (k + 1) =
-                sym (ap₂ way_in {x = S'} {y = put_in S k (node_of m)} {u = k + 1} {v = suc k} w.scratch (omega arith) ∙ way_put S k (node_of m) tellable.scratch)
+                let way : m ∷ way_in S k ≡ way_in S' (k + 1) =
+                sym (ap₂ way_in {x = S'} {y = put_in S k m} {u = k + 1} {v = suc k} w (omega arith) ∙ way_put S k m room_left)
                 in
                 ap (λ j. walk_by t a j (way_in S on)) one
-                ∙ walk_on t a (node_of m) (way_in S k) b (n - (told + 1)) (way_in S on) to (omega (arith, way_length S k))
-                ∙ ap (λ p. told_first (node_of m) (way_in S k) b (walk_by t a (n - (told + 1)) p)) way
+                ∙ walk_on t a m (way_in S k) b (n - (told + 1)) (way_in S on) to (omega (arith, way_length S k))
+                ∙ ap (λ p. told_first m (way_in S k) b (walk_by t a (n - (told + 1)) p)) way

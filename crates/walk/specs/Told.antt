@@ -1,10 +1,8 @@
 -- The lists of levels and labels, on the way.
-use Rattle.std.specs.Prelude.{◌≡◌, List, ℕ, pred, ◌+◌, ◌*◌, ◌^◌, ◌≤◌, ◌<◌, length, replicate, set}
+use Rattle.std.specs.Prelude.{◌≡◌, List, ℕ, ◌+◌, ◌*◌, ◌≤◌, length, replicate}
 use Rattle.meaning.specs.Answers.{Answer, is, nothing, refused, broken}
-use Rattle.meaning.specs.Child.{Node}
 use Rattle.meaning.specs.Walking as walking
 use Rattle.meaning.specs.Walking.{unwalked}
-use Rattle.walk.specs.Kept.{put_in}
 use Rattle.walk.specs.Said.{rooms_at}
 
 -- lists made zeros
@@ -23,19 +21,6 @@ pub record Roomy (n : ℕ) (vs bs s : List ℕ) : Type 0 where
   pub levels : n ≤ length vs
   pub labels : n ≤ length bs
   pub scratch : 2 * n + 2 ≤ length s
-
--- after `told` nodes there is room for one more, under n others
-pub record Tellable (told n : ℕ) (vs bs s : List ℕ) : Type 0 where
-  pub levels : told < length vs
-  pub labels : told < length bs
-  pub scratch : 2 * n + 1 < length s
-  pub level : n ≤ 2 ^ 32
-
--- the node m with the label b is told, and put on the way back
-pub record ToldIs (told n : ℕ) (m : Node) (b : ℕ) (vs bs s vs' bs' s' : List ℕ) : Type 0 where
-  pub levels : vs' ≡ set vs told (pred n)
-  pub labels : bs' ≡ set bs told b
-  pub scratch : s' ≡ put_in s n m
 
 -- what a call comes to once scratch is made zeros, and, refused, the lists
 unfoldable pub ended : Answer ℕ → List ℕ → List ℕ → List ℕ → walking.Walked

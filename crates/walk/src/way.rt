@@ -1,4 +1,5 @@
 // The way back to the root, in scratch: the node at depth d is its place at 2 d and its id at 2 d + 1; the root has depth 0.
+// Scratch is lent, since memory is fixed.
 ghost use Rattle.std.specs.Prelude.{◌≡◌, ◌+◌, ◌*◌, ◌<◌, length};
 ghost use Rattle.questions.specs.Said.{node_of};
 ghost use Rattle.walk.specs.Kept.{node_in, put_in};

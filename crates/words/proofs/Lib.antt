@@ -1,2 +1,1 @@
-pub mod Fill
 pub mod Determined

@@ -6,8 +6,8 @@ use Rattle.closes.proofs.get.Goals as goal
 pub returns-then-not-counts_fit : goal.returns-then-not-counts_fit
 returns-then-not-counts_fit c = search (bit_unfit, rules)
 
-pub returns-then-bits-place : goal.returns-then-bits-place
-returns-then-bits-place c = search (bit_place, rules)
+pub returns-then-string-place : goal.returns-then-string-place
+returns-then-string-place c = search (bit_place, rules)
 
 pub returns : goal.returns
 returns c = search (bit_is, rules)

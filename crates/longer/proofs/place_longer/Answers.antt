@@ -30,7 +30,7 @@ returns-then-scr-nodes c = search (longer_room, rules)
 pub copy_longer-requires : goal.copy_longer-requires
 copy_longer-requires c =
     longer_ready _ _ _ _ c.sound.ensures (ap not c.if-not-sound.false) _ c.last_one-p.ensures
-    c.zero64.new.a _ c.if-bits-p.false c.if-scr-nodes.false
+    c.fill.new.self _ c.if-bits-p.false c.if-scr-nodes.false
 
 pub returns : goal.returns
 returns c = search (longer_made, rules)

@@ -1,5 +1,5 @@
 -- `byte_size` meets its contract. Assumes nothing.
-use Rattle.questions.proofs.Summing.{size_unfit, size_held}
+use Rattle.questions.proofs.Sums.{size_unfit, size_held}
 use borrow.Author.Rules.{rules}
 use Rattle.questions.proofs.byte_size.Goals as goal
 

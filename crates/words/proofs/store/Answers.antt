@@ -1,4 +1,4 @@
--- `words::store` meets its contract. Assumes nothing.
+-- `words::store` meets its contract.
 use mathlib.Core.Path.{sym, ap}
 use Prim.Native.Nat.{ℕ, ◌/◌}
 use lib.ListN.{set}

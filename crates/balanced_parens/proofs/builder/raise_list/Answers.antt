@@ -1,16 +1,12 @@
 -- `raise_list`: each way out by its law.
-use Rattle.balanced_parens.proofs.Lists.{list_made, list_many, list_level, list_room}
-use borrow.Author.Rules.{rules}
+use Rattle.std.proofs.lemmas.Result.{err_from_is_err_and}
+use Rattle.balanced_parens.proofs.Lists.{list_made, list_refused}
 use Rattle.balanced_parens.proofs.builder.raise_list.Goals as goal
 
-pub returns-in-Made : goal.returns-in-Made
-returns-in-Made c = search (list_made, c.place-p.ensures, c.in-Made.is, c.raise-r.ensures, rules)
+pub returns-in_err-place-clause-staged : goal.returns-in_err-place-clause-staged
+returns-in_err-place-clause-staged c =
+    let p = err_from_is_err_and c.from_residual.result c.from_residual.ensures.1 in
+    rw (p.1, p.2) (list_refused _ _ _ _ _ _ c.in_err-place.ensures)
 
-pub returns-in-Many : goal.returns-in-Many
-returns-in-Many c = search (list_many, rules)
-
-pub returns-in-Level : goal.returns-in-Level
-returns-in-Level c = search (list_level, rules)
-
-pub returns-in-Room : goal.returns-in-Room
-returns-in-Room c = search (list_room, rules)
+pub returns-clause-staged : goal.returns-clause-staged
+returns-clause-staged c = list_made _ _ _ _ _ c.in_ok-place.ensures _ _ _ c.raise.ensures

@@ -1,23 +1,16 @@
 -- `raise_longer`: each way out by its law.
-use Rattle.balanced_parens.proofs.Grows.{longer_few, longer_raised, longer_broken, longer_many, longer_level, longer_room}
-use native.Mathlib.Omega.{arith}
-use borrow.Author.Rules.{rules}
+use Rattle.std.proofs.Common.{arith}
+use Rattle.std.proofs.lemmas.Result.{err_from_is_err_and}
+use Rattle.balanced_parens.proofs.Grows.{longer_few, longer_raised, longer_refused}
 use Rattle.balanced_parens.proofs.growth.raise_longer.Goals as goal
 
+pub returns-in_err-place_longer-clause-staged : goal.returns-in_err-place_longer-clause-staged
+returns-in_err-place_longer-clause-staged c =
+    let p = err_from_is_err_and c.from_residual.result c.from_residual.ensures.1 in
+    rw (p.1, p.2) (longer_refused _ _ _ _ _ _ _ _ _ c.in_err-place_longer.ensures)
+
 pub overflow_add-n : goal.overflow_add-n
-overflow_add-n c = omega (arith, longer_few _ _ _ _ _ _ _ c.place_longer-p.ensures c.in-Made.is)
+overflow_add-n c = omega (arith, longer_few _ _ _ _ _ _ c.in_ok-place_longer.ensures)
 
-pub returns-in-Made : goal.returns-in-Made
-returns-in-Made c = search (longer_raised, c.place_longer-p.ensures, c.in-Made.is, c.raise-r.ensures, rules)
-
-pub returns-in-Broken : goal.returns-in-Broken
-returns-in-Broken c = search (longer_broken, rules)
-
-pub returns-in-Many : goal.returns-in-Many
-returns-in-Many c = search (longer_many, rules)
-
-pub returns-in-Level : goal.returns-in-Level
-returns-in-Level c = search (longer_level, rules)
-
-pub returns-in-Room : goal.returns-in-Room
-returns-in-Room c = search (longer_room, rules)
+pub returns-clause-staged : goal.returns-clause-staged
+returns-clause-staged c = longer_raised _ _ _ _ _ _ c.in_ok-place_longer.ensures _ _ _ _ _ c.raise.ensures

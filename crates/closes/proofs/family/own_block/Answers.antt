@@ -1,13 +1,15 @@
 -- `own_block` meets its contract. Assumes nothing.
-use Rattle.closes.proofs.Flags.{block_after, block_own, block_other}
+use Rattle.closes.proofs.Flags.{block_own, block_other, block_after}
 use borrow.Author.Rules.{rules}
 use Rattle.closes.proofs.family.own_block.Goals as goal
+use Rattle.closes.proofs.family.own_block.Goals.{else-q-p-via-then-q-p+else-q-p-2, else-q-p-via-else-q-p}
 
-pub returns-then-p-q : goal.returns-then-p-q
-returns-then-p-q c = search (block_after, rules)
-
-pub returns-then-q-p : goal.returns-then-q-p
-returns-then-q-p c = search (block_own, rules)
+pub returns-then-q-p-2 : goal.returns-then-q-p-2
+returns-then-q-p-2 c = search (block_own, rules)
 
 pub returns : goal.returns
-returns c = search (block_other, rules)
+returns c =
+    elim c.else-q-p.branch [
+      | else-q-p-via-then-q-p+else-q-p-2 w ↦ search (block_other, rules)
+      | else-q-p-via-else-q-p w ↦ search (block_after, rules)
+    ]

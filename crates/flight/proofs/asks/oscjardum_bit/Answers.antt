@@ -8,4 +8,4 @@ pub returns : goal.returns
 returns c =
     let a = c.args in
     asks of_number (λ t. bit_in t (lent_at a.words.now a.bytes.now a.middles.now a.larges.now a.labels.now) a.place) _ _ _
-    c.counts_of-c.ensures c.get-said.ensures c.of_bit.ensures c.answer.ensures
+    c.counts_of.ensures c.get-said.ensures c.of_bit.ensures c.answer.ensures

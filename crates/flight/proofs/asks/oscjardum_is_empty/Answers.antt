@@ -8,4 +8,4 @@ pub returns : goal.returns
 returns c =
     let a = c.args in
     asks of_truth (λ t. is_empty_in t (lent_at a.words.now a.bytes.now a.middles.now a.larges.now a.labels.now)) _ _ _
-    c.counts_of-c.ensures c.is_empty-said.ensures c.of_truth.ensures c.answer.ensures
+    c.counts_of.ensures c.is_empty-said.ensures c.of_truth.ensures c.answer.ensures

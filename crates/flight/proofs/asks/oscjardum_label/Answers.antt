@@ -8,4 +8,4 @@ pub returns : goal.returns
 returns c =
     let a = c.args in
     asks of_number (λ t. label_in t (lent_at a.words.now a.bytes.now a.middles.now a.larges.now a.labels.now) (record { place = a.place; id = a.id })) _ _ _
-    c.counts_of-c.ensures c.label-said.ensures c.of_label.ensures c.answer.ensures
+    c.counts_of.ensures c.label-said.ensures c.of_label.ensures c.answer.ensures

@@ -8,4 +8,4 @@ pub returns : goal.returns
 returns c =
     let a = c.args in
     asks of_edge (λ t. next_sibling t (lent_at a.words.now a.bytes.now a.middles.now a.larges.now a.labels.now) (record { place = a.place; id = a.id })) _ _ _
-    c.counts_of-c.ensures c.next_sibling-said.ensures c.of_edge.ensures c.answer.ensures
+    c.counts_of.ensures c.next_sibling-said.ensures c.of_edge.ensures c.answer.ensures

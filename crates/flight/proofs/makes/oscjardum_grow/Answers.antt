@@ -5,7 +5,7 @@ use Rattle.flight.proofs.makes.oscjardum_grow.Goals as goal
 
 pub returns-then-short : goal.returns-then-short
 returns-then-short c =
-    grow_short _ _ _ _ _ _ _ _ _ _ _ _ c.short.ensures c.if-short.true c.zero64.ensures
+    grow_short _ _ _ _ _ _ _ _ _ _ _ _ c.short.ensures c.if-short.true (c.fill.ensures.after (λ y h. h))
 
 pub record_grown-requires : goal.record_grown-requires
 record_grown-requires c = long_counts _ _ _ c.short.ensures c.if-short.false
@@ -15,4 +15,4 @@ tell-requires c = long_out _ _ _ c.short.ensures c.if-short.false
 
 pub returns : goal.returns
 returns c =
-    grow_told _ _ _ _ _ _ _ _ _ _ _ _ _ c.short.ensures c.if-short.false c.counts_of-c.ensures c.grow-b.ensures c.record_grown.ensures c.of_built.ensures c.tell.ensures
+    grow_told _ _ _ _ _ _ _ _ _ _ _ _ _ c.short.ensures c.if-short.false c.counts_of-c.ensures c.grow-grown.ensures c.record_grown.ensures c.of_built.ensures c.tell.ensures

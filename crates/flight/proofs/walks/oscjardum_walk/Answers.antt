@@ -8,7 +8,7 @@ pub returns-then-short : goal.returns-then-short
 returns-then-short c =
     let a = c.args in
     tour_short _ a.counts.now a.out_levels.now a.out_labels.now a.scratch.now a.out.now _ _ _ _ c.short.ensures c.if-short.true
-    c.zero32.ensures c.zero32-then-short.ensures c.zero64.ensures
+    (c.fill.ensures.after (λ y h. h)) (c.fill-then-short.ensures.after (λ y h. h)) (c.fill-then-short-2.ensures.after (λ y h. h))
 
 pub tell-requires : goal.tell-requires
 tell-requires c = long_out _ _ _ c.short.ensures c.if-short.false

@@ -4,6 +4,3 @@ use Rattle.listing.proofs.lines.parent_of.Given as goal
 
 abbrev pub invariant-loop-j : goal.invariant-loop-j
 invariant-loop-j l = Back l.levels l.k l.v l.j
-
-abbrev pub decreases-loop-j : goal.decreases-loop-j
-decreases-loop-j l = l.j

@@ -1,16 +1,19 @@
 -- `listing::reader::with_digit` meets its contract.
-use Rattle.listing.proofs.Scan.{with_zero, with_none, with_some, with_over}
+use Rattle.listing.proofs.Putting.{broke}
+use Rattle.listing.proofs.Scan.{with_zero, with_none, with_large, with_sum}
 use borrow.Author.Rules.{rules}
 use Rattle.listing.proofs.reader.with_digit.Goals as goal
 
 pub returns-then-v-eq0 : goal.returns-then-v-eq0
 returns-then-v-eq0 c = search (with_zero, rules)
 
-pub returns-in_default : goal.returns-in_default
-returns-in_default c = search (with_none, rules)
+pub returns-in_err-d : goal.returns-in_err-d
+returns-in_err-d c = search (with_none, broke, rules)
 
-pub returns-then-w-lt4294967296 : goal.returns-then-w-lt4294967296
-returns-then-w-lt4294967296 c = search (with_some, rules)
+pub returns-in_err-checked_mul : goal.returns-in_err-checked_mul
+returns-in_err-checked_mul c =
+    with_large _ _ _ c.if-v-eq0.false c.digit_of.ensures _ c.in_ok-d.was c.in_err-checked_mul.ensures c.from_residual-in_err-checked_mul.ensures
 
 pub returns : goal.returns
-returns c = search (with_over, rules)
+returns c =
+    with_sum _ _ _ c.if-v-eq0.false c.digit_of.ensures _ c.in_ok-d.was _ _ c.in_ok-checked_mul.ensures.1 c.checked_add.ensures

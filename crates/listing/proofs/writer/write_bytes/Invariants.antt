@@ -1,11 +1,6 @@
--- `listing::writer::write_bytes` meets its contract. The loop's invariant: the first i bytes stand in the lent ones, up to a.
-use Prim.Native.Nat.{◌-◌}
-use lib.ListN.{length}
+-- `listing::writer::write_bytes` meets its contract. The loop's invariant: the bytes so far stand in the lent ones, up to `next`.
 use Rattle.listing.proofs.Putting.{Copied}
 use Rattle.listing.proofs.writer.write_bytes.Given as goal
 
-abbrev pub invariant-loop-i : goal.invariant-loop-i
-invariant-loop-i l = Copied l.text l.initial.out l.at l.out l.a l.i
-
-abbrev pub decreases-loop-i : goal.decreases-loop-i
-decreases-loop-i l = length l.text - l.i
+abbrev pub invariant-loop-b : goal.invariant-loop-b
+invariant-loop-b l = Copied l.text l.initial.out l.at l.out l.next l.b-index

@@ -6,14 +6,14 @@ use Rattle.listing.proofs.Pieces.{pair_next, pair_halted}
 use borrow.Author.Rules.{rules}
 use Rattle.listing.proofs.writer.write_head.Goals as goal
 
-pub returns-in_default : goal.returns-in_default
+pub returns-in_err-at : goal.returns-in_err-at
 unfolding head_line line ended quoted
-returns-in_default c = search (next, halted, told, rules)
+returns-in_err-at c = search (next, halted, told, c.in_err-at.was, rules)
 
-pub returns-in_default-q : goal.returns-in_default-q
+pub returns-in_err-at-2 : goal.returns-in_err-at-2
 unfolding head_line line ended quoted
-returns-in_default-q c = search (next, halted, pair_halted, told, rules)
+returns-in_err-at-2 c = search (next, halted, pair_halted, told, c.in_ok-at.was, c.in_err-at-2.was, rules)
 
 pub returns : goal.returns
 unfolding head_line line ended quoted
-returns c = search (next, pair_next, told, rules)
+returns c = search (next, pair_next, told, c.in_ok-at.was, c.in_ok-at-2.was, rules)

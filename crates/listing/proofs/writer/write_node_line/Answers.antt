@@ -5,14 +5,14 @@ use Rattle.listing.proofs.Pieces.{pair_next, pair_halted}
 use borrow.Author.Rules.{rules}
 use Rattle.listing.proofs.writer.write_node_line.Goals as goal
 
-pub returns-in_default : goal.returns-in_default
+pub returns-in_err-at : goal.returns-in_err-at
 unfolding node_line line
-returns-in_default c = search (pair_halted, rules)
+returns-in_err-at c = search (pair_halted, c.in_err-at.was, rules)
 
-pub returns-in_default-q : goal.returns-in_default-q
+pub returns-in_err-at-2 : goal.returns-in_err-at-2
 unfolding node_line line
-returns-in_default-q c = search (pair_next, pair_halted, rules)
+returns-in_err-at-2 c = search (pair_next, pair_halted, c.in_ok-at.was, c.in_err-at-2.was, rules)
 
 pub returns : goal.returns
 unfolding node_line line
-returns c = search (pair_next, told, rules)
+returns c = search (pair_next, c.in_ok-at.was, c.in_ok-at-2.was, told, rules)

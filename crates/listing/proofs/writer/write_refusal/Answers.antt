@@ -5,14 +5,14 @@ use Rattle.listing.proofs.Pieces.{refusal_put}
 use borrow.Author.Rules.{rules}
 use Rattle.listing.proofs.writer.write_refusal.Goals as goal
 
-pub returns-in_default : goal.returns-in_default
+pub returns-in_err-at : goal.returns-in_err-at
 unfolding quoted
-returns-in_default c = search (refusal_put, halted, rules)
+returns-in_err-at c = search (refusal_put, halted, c.in_err-at.was, rules)
 
-pub returns-in_default-q : goal.returns-in_default-q
+pub returns-in_err-at-2 : goal.returns-in_err-at-2
 unfolding quoted
-returns-in_default-q c = search (refusal_put, next, halted, rules)
+returns-in_err-at-2 c = search (refusal_put, next, halted, c.in_ok-at.was, c.in_err-at-2.was, rules)
 
 pub returns : goal.returns
 unfolding quoted
-returns c = search (refusal_put, next, told, rules)
+returns c = search (refusal_put, next, told, c.in_ok-at.was, c.in_ok-at-2.was, rules)

@@ -1,11 +1,6 @@
 -- `listwalk::siblings::siblings_of` meets its contract. Assumes nothing.
-use Prim.Native.Nat.{◌-◌}
-use lib.ListN.{length}
 use Rattle.listwalk.proofs.Column.{Column}
 use Rattle.listwalk.proofs.siblings.siblings_of.Given as goal
 
 abbrev pub invariant-loop-k : goal.invariant-loop-k
 invariant-loop-k l = Column l.levels l.initial.out l.out l.k
-
-abbrev pub decreases-loop-k : goal.decreases-loop-k
-decreases-loop-k l = length l.levels - l.k

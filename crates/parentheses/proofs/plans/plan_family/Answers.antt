@@ -1,29 +1,23 @@
 -- `plan_family`: each way out by its law.
-use native.Mathlib.Omega.{arith}
-use Rattle.parentheses.proofs.Families.{family_unmarked, family_part, family_made, family_full, family_many, family_broken}
+use Rattle.std.proofs.Common.{refl, arith}
+use Rattle.parentheses.proofs.Families.{family_unmarked, family_part, family_made, family_refused}
 use Rattle.parentheses.proofs.plans.plan_family.Goals as goal
 
-pub offset_bounds-scr-flags : goal.offset_bounds-scr-flags
-offset_bounds-scr-flags c = omega (arith, family_part c.args.scr.now c.args.lay c.requires c.mark.result c.mark.new.scr c.mark.ensures)
+pub returns-then-not-mark : goal.returns-then-not-mark
+returns-then-not-mark c = family_unmarked _ _ c.args.level c.requires _ _ c.mark.ensures c.if-not-mark.true
+
+pub offset_bounds-scr-lay : goal.offset_bounds-scr-lay
+offset_bounds-scr-lay c = omega (arith, family_part c.args.scr.now c.args.lay c.args.level c.requires c.mark.result c.mark.new.scr c.mark.ensures)
 
 pub slice_bounds-plan-count : goal.slice_bounds-plan-count
-slice_bounds-plan-count c = omega (arith, family_part c.args.scr.now c.args.lay c.requires c.mark.result c.mark.new.scr c.mark.ensures)
+slice_bounds-plan-count c = omega (arith, family_part c.args.scr.now c.args.lay c.args.level c.requires c.mark.result c.mark.new.scr c.mark.ensures)
 
 pub slice_bounds-plan-start : goal.slice_bounds-plan-start
-slice_bounds-plan-start c = omega (arith, family_part c.args.scr.now c.args.lay c.requires c.mark.result c.mark.new.scr c.mark.ensures)
+slice_bounds-plan-start c = omega (arith, family_part c.args.scr.now c.args.lay c.args.level c.requires c.mark.result c.mark.new.scr c.mark.ensures)
 
-pub returns-in-Fits : goal.returns-in-Fits
-returns-in-Fits c =
-    family_made _ _ c.requires _ _ c.mark.ensures _ c.plan-p.ensures _ c.in-Fits.is _ _ c.compact-bits.ensures
+pub returns-in-Ok : goal.returns-in-Ok
+returns-in-Ok c =
+    family_made _ _ _ c.requires _ _ c.mark.ensures _ c.in-Ok.ensures _ refl _ _ c.compact-bits.ensures
 
-pub returns-in-Full : goal.returns-in-Full
-returns-in-Full c = family_full _ _ c.requires _ _ c.mark.ensures _ c.plan-p.ensures _ c.in-Full.is
-
-pub returns-in-Many : goal.returns-in-Many
-returns-in-Many c = family_many _ _ c.requires _ _ c.mark.ensures _ c.plan-p.ensures _ c.in-Many.is
-
-pub returns-in-Broken : goal.returns-in-Broken
-returns-in-Broken c = family_broken _ _ c.requires _ _ c.mark.ensures _ c.plan-p.ensures c.in-Broken.is
-
-pub returns : goal.returns
-returns c = family_unmarked _ _ c.requires _ _ c.mark.ensures c.if-mark.false
+pub returns-in-Err : goal.returns-in-Err
+returns-in-Err c = family_refused _ _ _ c.requires _ _ c.mark.ensures _ c.in-Err.ensures _ refl _ c.at_level.ensures

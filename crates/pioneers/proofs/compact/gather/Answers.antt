@@ -12,8 +12,8 @@ keep_turn-at-requires c = keeps _ _ c.requires _ _ _ c.loop-i.invariant c.loop-i
 pub loop-i-preserved : goal.loop-i-preserved
 loop-i-preserved c = kept_next _ _ c.requires _ _ _ c.loop-i.invariant c.loop-i-test.true _ _ c.keep_turn-at.ensures
 
-pub offset_bounds-scr-text : goal.offset_bounds-scr-text
-offset_bounds-scr-text c = omega (arith, text_room _ _ c.requires _ _ _ c.loop-i.invariant)
+pub offset_bounds-scr-lay : goal.offset_bounds-scr-lay
+offset_bounds-scr-lay c = omega (arith, text_room _ _ c.requires _ _ _ c.loop-i.invariant)
 
 pub slice_bounds-trim-count : goal.slice_bounds-trim-count
 slice_bounds-trim-count c = omega (arith, text_room _ _ c.requires _ _ _ c.loop-i.invariant)

@@ -1,10 +1,6 @@
 -- `one_root`: what is left of the string has the whole string's answer.
-use Prim.Native.Nat.{◌-◌}
 use Rattle.pioneers.proofs.Rooted.{Rooting}
 use Rattle.pioneers.proofs.root.one_root.Given as goal
 
 abbrev pub invariant-loop-i : goal.invariant-loop-i
 invariant-loop-i l = Rooting l.words l.n l.i l.depth
-
-abbrev pub decreases-loop-i : goal.decreases-loop-i
-decreases-loop-i l = l.n - l.i

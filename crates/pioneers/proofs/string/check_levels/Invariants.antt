@@ -1,12 +1,8 @@
 -- `check_levels`: what is left of the list has the whole list's answer.
 use mathlib.Core.Path.{◌≡◌}
-use Prim.Native.Nat.{◌≤◌, ◌-◌}
-use lib.ListN.{length, drop}
+use lib.ListN.{drop}
 use Rattle.meaning.specs.List.{offending_from, offending}
 use Rattle.pioneers.proofs.string.check_levels.Given as goal
 
 abbrev pub invariant-loop-i : goal.invariant-loop-i
-invariant-loop-i l = (l.i ≤ length l.levels) × (offending_from l.i l.most (drop l.i l.levels) ≡ offending l.levels)
-
-abbrev pub decreases-loop-i : goal.decreases-loop-i
-decreases-loop-i l = length l.levels - l.i
+invariant-loop-i l = offending_from l.i l.most (drop l.i l.levels) ≡ offending l.levels

@@ -1,22 +1,23 @@
 -- `check` meets its contract. Assumes nothing.
-use Rattle.questions.proofs.Asking.{place_held, check_unfit, check_out, check_id, check_shut, check_passed}
+use Rattle.std.proofs.lemmas.Result.{err_from_is_err_and}
+use Rattle.questions.proofs.Passing.{check_lost, rank_lost, check_id, check_shut, check_passed}
 use borrow.Author.Rules.{rules}
 use Rattle.questions.proofs.checks.check.Goals as goal
 
-pub returns-then-not-counts_fit : goal.returns-then-not-counts_fit
-returns-then-not-counts_fit c = search (check_unfit, rules)
+pub returns-in_err-open : goal.returns-in_err-open
+returns-in_err-open c = search (check_lost, rules)
 
-pub returns-then-bits-place : goal.returns-then-bits-place
-returns-then-bits-place c = search (check_out, rules)
+pub returns-in_err-rank_one : goal.returns-in_err-rank_one
+returns-in_err-rank_one c =
+    let r = c.from_residual-in_err-rank_one in
+    let p = err_from_is_err_and r.result r.ensures.1 in
+    rw (p.1, p.2) (search (rank_lost, c.in_ok-open.was, c.in_err-rank_one.ensures, rules))
 
-pub opens_before-opens-requires : goal.opens_before-opens-requires
-opens_before-opens-requires c = search (place_held, rules)
+pub returns-then-branch : goal.returns-then-branch
+returns-then-branch c = search (check_id, c.in_ok-open.was, c.in_ok-rank_one.ensures, rules)
 
-pub returns-then-node-opens : goal.returns-then-node-opens
-returns-then-node-opens c = search (check_id, rules)
-
-pub returns-then-not-open_at : goal.returns-then-not-open_at
-returns-then-not-open_at c = search (check_shut, rules)
+pub returns-then-not-open : goal.returns-then-not-open
+returns-then-not-open c = search (check_shut, c.in_ok-open.was, c.in_ok-rank_one.ensures, rules)
 
 pub returns : goal.returns
-returns c = search (check_passed, rules)
+returns c = search (check_passed, c.in_ok-open.was, c.in_ok-rank_one.ensures, rules)

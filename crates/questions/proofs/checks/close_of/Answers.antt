@@ -1,16 +1,16 @@
 -- `close_of` meets its contract. Assumes nothing.
-use Rattle.questions.proofs.Asking.{close_at_lem, close_place, close_close, close_broken}
+use Rattle.questions.proofs.Passing.{closed_lost, closed_broken, closed_back, closed_is}
 use borrow.Author.Rules.{rules}
 use Rattle.questions.proofs.checks.close_of.Goals as goal
 
-pub returns-in-At : goal.returns-in-At
-returns-in-At c = search (close_at_lem, rules)
+pub returns-in_err-check : goal.returns-in_err-check
+returns-in_err-check c = search (closed_lost, rules)
 
-pub returns-in-Place : goal.returns-in-Place
-returns-in-Place c = search (close_place, rules)
+pub returns-in_err-close : goal.returns-in_err-close
+returns-in_err-close c = search (closed_broken, c.in_ok-check.ensures, rules)
 
-pub returns-in-Close : goal.returns-in-Close
-returns-in-Close c = search (close_close, rules)
+pub returns-then-close-node : goal.returns-then-close-node
+returns-then-close-node c = search (closed_back, c.in_ok-check.ensures, c.in_ok-close.was, rules)
 
-pub returns-in-Broken : goal.returns-in-Broken
-returns-in-Broken c = search (close_broken, rules)
+pub returns : goal.returns
+returns c = search (closed_is, c.in_ok-check.ensures, c.in_ok-close.was, rules)

@@ -3,4 +3,6 @@ use Rattle.sparse_one_nnd.proofs.Writes.{write_zeros}
 use Rattle.sparse_one_nnd.proofs.SparseOneNnd.build.Goals as goal
 
 pub returns : goal.returns
-returns c = let a = c.args in write_zeros _ _ a.bytes.now a.middles.now a.larges.now _ _ _ c.empty.result _ c.zero8.ensures c.zero16.ensures c.zero64.ensures c.empty.ensures c.write.ensures
+returns c =
+    let a = c.args in
+    write_zeros _ _ a.bytes.now a.middles.now a.larges.now _ _ _ c.empty.result _ (c.fill.ensures.after (λ _ e. e)) (c.fill-2.ensures.after (λ _ e. e)) (c.fill-3.ensures.after (λ _ e. e)) c.empty.ensures c.write.ensures

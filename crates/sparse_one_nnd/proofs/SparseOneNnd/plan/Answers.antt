@@ -1,18 +1,15 @@
 -- `plan` meets its contract: by what the first pass finds.
-use Rattle.sparse_one_nnd.proofs.Plans.{fits_few, said_broken, said_many, said_full, said_fits}
+use mathlib.Core.Path.{sym, ap, ◌∙◌}
+use Rattle.sparse_one_nnd.specs.Said.{said_entries}
+use Rattle.sparse_one_nnd.proofs.Replies.{passed_on}
+use Rattle.sparse_one_nnd.proofs.Plans.{counts_few, plan_counted}
 use Rattle.sparse_one_nnd.proofs.SparseOneNnd.plan.Goals as goal
 
+pub returns-in_err-found : goal.returns-in_err-found
+returns-in_err-found c = ap said_entries (passed_on _ _ c.from_residual.ensures.1) ∙ sym c.in_err-found.ensures.plan
+
 pub counts_of-requires : goal.counts_of-requires
-counts_of-requires c = fits_few _ _ _ c.scan-pass.ensures _ _ c.in-Fits.is
+counts_of-requires c = counts_few c.in_ok-found.ensures
 
-pub returns-in-Broken : goal.returns-in-Broken
-returns-in-Broken c = said_broken _ _ _ c.scan-pass.ensures c.in-Broken.is
-
-pub returns-in-Many : goal.returns-in-Many
-returns-in-Many c = said_many _ _ _ c.scan-pass.ensures _ c.in-Many.is
-
-pub returns-in-Full : goal.returns-in-Full
-returns-in-Full c = said_full _ _ _ c.scan-pass.ensures _ c.in-Full.is
-
-pub returns-in-Fits : goal.returns-in-Fits
-returns-in-Fits c = said_fits _ _ _ c.scan-pass.ensures _ _ _ c.in-Fits.is c.counts_of.ensures
+pub returns : goal.returns
+returns c = plan_counted c.in_ok-found.ensures _ c.counts_of.ensures

@@ -1,13 +1,9 @@
 -- `scan` meets its contract: by the tests on the way.
-use Rattle.sparse_one_nnd.proofs.Planning.{past_words, in_words, too_many}
-use borrow.Author.Rules.{rules}
+use Rattle.sparse_one_nnd.proofs.Planning.{past_words, too_many}
 use Rattle.sparse_one_nnd.proofs.first_pass.scan.Goals as goal
 
-pub returns-then-n-gt2097152 : goal.returns-then-n-gt2097152
-returns-then-n-gt2097152 c = search (too_many, rules)
+pub returns-then-not-enough : goal.returns-then-not-enough
+returns-then-not-enough c = past_words _ _ c.if-not-enough.ensures
 
-pub scan_blocks-requires : goal.scan_blocks-requires
-scan_blocks-requires c = search (in_words, rules)
-
-pub returns : goal.returns
-returns c = search (past_words, rules)
+pub returns-then-n-gt-MOST_BITS : goal.returns-then-n-gt-MOST_BITS
+returns-then-n-gt-MOST_BITS c = too_many _ _ c.if-not-enough.ensures c.if-n-gt-MOST_BITS.true

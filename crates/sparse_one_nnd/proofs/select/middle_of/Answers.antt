@@ -1,10 +1,7 @@
--- `middle_of` meets its contract: the slice that is looked through is the 32 entries, or what is left of them.
-use Rattle.sparse_one_nnd.proofs.Seeks.{middle_rest, middle_whole}
-use borrow.Author.Rules.{rules}
+-- `middle_of` meets its contract: what is looked through is the 32 entries, or what is left of them.
+use mathlib.Core.Path.{refl}
+use Rattle.sparse_one_nnd.proofs.Seeks.{middle_is}
 use Rattle.sparse_one_nnd.proofs.select.middle_of.Goals as goal
 
-pub returns-then-middles-from-le64 : goal.returns-then-middles-from-le64
-returns-then-middles-from-le64 c = search (middle_rest, rules)
-
 pub returns : goal.returns
-returns c = search (middle_whole, rules)
+returns c = middle_is _ _ _ _ _ _ _ refl c.min.ensures c.before-2.ensures.0 c.saturating_sub.ensures

@@ -1,16 +1,20 @@
--- `place_of` meets its contract: by the tests on the way.
-use Rattle.sparse_one_nnd.proofs.Selects.{place_middle, place_block, place_over, place_is}
-use borrow.Author.Rules.{rules}
+-- `place_of` meets its contract: what overflows on the way overflows.
+use mathlib.Core.Path.{ap, ◌∙◌}
+use native.Mathlib.Omega.{arith}
+use Rattle.refusal.specs.Said.{option_of}
+use Rattle.sparse_one_nnd.proofs.Replies.{sum_over, sum_or}
 use Rattle.sparse_one_nnd.proofs.select.place_of.Goals as goal
 
-pub returns-then-m : goal.returns-then-m
-returns-then-m c = search (place_middle, rules)
+pub returns-in_err-middle : goal.returns-in_err-middle
+returns-in_err-middle c = ap option_of c.from_residual.ensures ∙ sum_over _ (λ h. c.in_err-middle.ensures (omega arith))
 
-pub returns-then-middle-j : goal.returns-then-middle-j
-returns-then-middle-j c = search (place_block, rules)
+pub returns-in_err-block : goal.returns-in_err-block
+returns-in_err-block c = ap option_of c.from_residual-in_err-block.ensures ∙ sum_over _ (λ h. c.in_err-block.ensures (omega arith))
 
-pub returns-then-block-o : goal.returns-then-block-o
-returns-then-block-o c = search (place_over, rules)
+pub returns-in_err-checked_add : goal.returns-in_err-checked_add
+returns-in_err-checked_add c =
+    ap option_of c.from_residual-in_err-checked_add.ensures ∙ sum_over _ (λ h. c.in_err-checked_add.ensures (omega (arith, c.in_ok-middle.ensures, c.in_ok-block.ensures)))
 
 pub returns : goal.returns
-returns c = search (place_is, rules)
+returns c =
+    sum_or _ _ _ c.checked_add-2.ensures (omega (arith, c.in_ok-middle.ensures, c.in_ok-block.ensures, c.in_ok-checked_add.ensures))

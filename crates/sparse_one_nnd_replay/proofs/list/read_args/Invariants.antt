@@ -1,9 +1,9 @@
 -- `read_args` is safe and ends.
-use Rattle.std.proofs.Common.{◌≡◌, ◌-◌, length}
+use Rattle.std.proofs.Common.{◌-◌, length}
 use Rattle.sparse_one_nnd_replay.proofs.list.read_args.Given as goal
 
-abbrev pub invariant-loop-here : goal.invariant-loop-here
-invariant-loop-here l = (length l.args ≡ length l.initial.args)
+abbrev pub invariant-loop-span : goal.invariant-loop-span
+invariant-loop-span l = Unit {0}
 
-abbrev pub decreases-loop-here : goal.decreases-loop-here
-decreases-loop-here l = length l.text - l.here
+abbrev pub decreases-loop-span : goal.decreases-loop-span
+decreases-loop-span l = length l.list.text.now - l.list.next

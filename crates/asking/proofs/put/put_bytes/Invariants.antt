@@ -1,9 +1,0 @@
--- `put::put_bytes` is safe, and ends.
-use Rattle.std.proofs.Common.{◌≡◌, ◌-◌, length}
-use Rattle.asking.proofs.put.put_bytes.Given as goal
-
-abbrev pub invariant-loop-i : goal.invariant-loop-i
-invariant-loop-i l = length l.out ≡ length l.initial.out
-
-abbrev pub decreases-loop-i : goal.decreases-loop-i
-decreases-loop-i l = length l.text - l.i

@@ -1,9 +1,0 @@
--- `field` is safe, and ends.
-use Rattle.std.proofs.Common.{◌-◌, ◌≤◌}
-use Rattle.bit_string_replay.proofs.field.Given as goal
-
-abbrev pub invariant-loop-i : goal.invariant-loop-i
-invariant-loop-i l = l.i ≤ l.k
-
-abbrev pub decreases-loop-i : goal.decreases-loop-i
-decreases-loop-i l = l.k - l.i

@@ -1,9 +1,0 @@
--- `load::spoil` is safe, and ends.
-use Rattle.std.proofs.Common.{◌≡◌, ◌-◌, length}
-use Rattle.bit_string_replay.proofs.load.spoil.Given as goal
-
-abbrev pub invariant-loop-i : goal.invariant-loop-i
-invariant-loop-i l = length l.words ≡ length l.initial.words
-
-abbrev pub decreases-loop-i : goal.decreases-loop-i
-decreases-loop-i l = length l.initial.words - l.i

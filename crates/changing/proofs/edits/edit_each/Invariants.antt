@@ -1,9 +1,0 @@
--- `edits::edit_each` is safe, and ends.
-use Rattle.std.proofs.Common.{◌≡◌, length}
-use Rattle.changing.proofs.edits.edit_each.Given as goal
-
-abbrev pub invariant-loop-left : goal.invariant-loop-left
-invariant-loop-left l = (length l.out ≡ length l.initial.out) × (length l.words ≡ length l.initial.words)
-
-abbrev pub decreases-loop-left : goal.decreases-loop-left
-decreases-loop-left l = l.left

@@ -1,8 +1,0 @@
--- `Fixnum8::succ_zero` meets its contract: the zeros are the ones of the complement.
-use mathlib.Core.Path.{◌∙◌}
-use borrow.Author.Rules.{rules}
-use Rattle.meaning.proofs.Word.{succ_zeros}
-use Rattle.fixnum.proofs.Fixnum8.succ_zero.Goals as goal
-
-pub returns : goal.returns
-returns c = c.succ_one.ensures ∙ succ_zeros 8 c.args.self.0 (search rules) c.args.index

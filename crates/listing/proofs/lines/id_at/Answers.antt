@@ -1,7 +1,0 @@
--- `listing::lines::id_at` meets its contract.
-use mathlib.Core.Path.{sym}
-use lib.ListN.{get_or-eq_default}
-use Rattle.listing.proofs.lines.id_at.Goals as goal
-
-pub returns : goal.returns
-returns c = sym (get_or-eq_default c.args.s.now 0 c.if-i-s.false)

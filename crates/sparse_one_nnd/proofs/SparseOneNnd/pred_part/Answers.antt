@@ -1,7 +1,0 @@
--- `pred_part` meets its contract: the question is asked past the offset.
-use Rattle.sparse_one_nnd.proofs.Parts.{pred_past}
-use borrow.Author.Rules.{rules}
-use Rattle.sparse_one_nnd.proofs.SparseOneNnd.pred_part.Goals as goal
-
-pub returns : goal.returns
-returns c = search (pred_past, rules)

@@ -1,7 +1,0 @@
--- `rank_part` meets its contract: the question is asked past the offset.
-use Rattle.sparse_one_nnd.proofs.Parts.{rank_past}
-use borrow.Author.Rules.{rules}
-use Rattle.sparse_one_nnd.proofs.SparseOneNnd.rank_part.Goals as goal
-
-pub returns : goal.returns
-returns c = search (rank_past, rules)

@@ -1,9 +1,0 @@
--- `digest` is safe and ends.
-use Rattle.std.proofs.Common.{◌-◌}
-use Rattle.sparse_one_nnd_replay.proofs.digest.digest.Given as goal
-
-abbrev pub invariant-loop-i : goal.invariant-loop-i
-invariant-loop-i l = Unit {0}
-
-abbrev pub decreases-loop-i : goal.decreases-loop-i
-decreases-loop-i l = l.n - l.i

@@ -1,9 +1,0 @@
--- `give::fill` is safe, and ends.
-use Rattle.std.proofs.Common.{◌≡◌, ◌-◌, length}
-use Rattle.standing.proofs.give.fill.Given as goal
-
-abbrev pub invariant-loop-i : goal.invariant-loop-i
-invariant-loop-i l = length l.state ≡ length l.initial.state
-
-abbrev pub decreases-loop-i : goal.decreases-loop-i
-decreases-loop-i l = l.upto - l.i

@@ -1,9 +1,0 @@
--- `moved::write64` is safe, and ends.
-use Rattle.std.proofs.Common.{◌≡◌, ◌-◌, length}
-use Rattle.standing.proofs.moved.write64.Given as goal
-
-abbrev pub invariant-loop-i : goal.invariant-loop-i
-invariant-loop-i l = length l.state ≡ length l.initial.state
-
-abbrev pub decreases-loop-i : goal.decreases-loop-i
-decreases-loop-i l = length l.area - l.i

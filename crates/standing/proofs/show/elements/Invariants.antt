@@ -1,9 +1,0 @@
--- `show::elements` is safe, and ends.
-use Rattle.std.proofs.Common.{◌≡◌, ◌-◌, length}
-use Rattle.standing.proofs.show.elements.Given as goal
-
-abbrev pub invariant-loop-i : goal.invariant-loop-i
-invariant-loop-i l = length l.out ≡ length l.initial.out
-
-abbrev pub decreases-loop-i : goal.decreases-loop-i
-decreases-loop-i l = l.n - l.i

@@ -1,9 +1,0 @@
--- `show::show_record` is safe, and ends.
-use Rattle.std.proofs.Common.{◌≡◌, ◌-◌, length}
-use Rattle.standing.proofs.show.show_record.Given as goal
-
-abbrev pub invariant-loop-i : goal.invariant-loop-i
-invariant-loop-i l = length l.out ≡ length l.initial.out
-
-abbrev pub decreases-loop-i : goal.decreases-loop-i
-decreases-loop-i l = 18 - l.i

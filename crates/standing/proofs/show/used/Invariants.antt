@@ -1,9 +1,0 @@
--- `show::used` is safe, and ends.
-use Rattle.std.proofs.Common.{◌≤◌}
-use Rattle.standing.proofs.show.used.Given as goal
-
-abbrev pub invariant-loop-m : goal.invariant-loop-m
-invariant-loop-m l = l.m ≤ l.n
-
-abbrev pub decreases-loop-m : goal.decreases-loop-m
-decreases-loop-m l = l.m
