@@ -6,7 +6,8 @@ use mathlib.Core.Option.{Option, none, some}
 use mathlib.Core.List.{List, [], ◌∷◌, ◌++◌}
 use Prim.Native.Nat.{ℕ, ◌≤◌}
 use native.Mathlib.Omega.{arith}
-use lib.ListN.{length, drop, replicate, length-replicate}
+use lib.ListN.{length, replicate, length-replicate}
+use lib.Seq.{paste}
 use borrow.Author.Tests.{eq-eqb, ne_eqb}
 use Rattle.meaning.specs.Answers.{Refusal, is, refused}
 use Rattle.meaning.specs.String.{string}
@@ -92,14 +93,14 @@ module _ (vs bs w b m g u s : List ℕ) (h : (length vs ≡ length bs) × Blank 
     unfolding rooms_of
     build_labels = omega (arith, h.0, ((accepted_exactly vs bs rooms).0 none_refuses).label)
 
-    pub build_made : (front : List ℕ) → front ≡ bs → Builds vs bs lent (lent_at w' b' m' g' (front ++ drop (length bs) u) s') o
+    pub build_made : (u' : List ℕ) → u' ≡ paste u 0 bs (length bs) → Builds vs bs lent (lent_at w' b' m' g' u' s') o
     unfolding build stage lent_of rooms_of
-    build_made front c =
+    build_made u' c =
         record {
           outcome =
-              ap (λ (x : Raising). after x.reply (record { held = x.held; labels = front ++ drop (length bs) u; scratch = x.scr })) (staged ∙ if_none _ _ none_refuses)
+              ap (λ (x : Raising). after x.reply (record { held = x.held; labels = u'; scratch = x.scr })) (staged ∙ if_none _ _ none_refuses)
               ∙ ap (λ (y : List ℕ). after (is (tree_of vs)) (record { held = written rooms (tower 4 (string vs)); labels = y; scratch = replicate (length s) 0 }))
-              (labels_filled bs u u front h.1.labels c)
+              (labels_filled bs u u u' h.1.labels c)
               ∙ sym (if_none _ _ none_refuses);
           sized = q.sized;
         }

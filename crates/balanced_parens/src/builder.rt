@@ -1,5 +1,6 @@
 // Build: a tree from a list of levels and one of labels.
-ghost use Rattle.std.specs.Prelude.{◌≡◌, length};
+ghost use Rattle.std.specs.Prelude.{◌≡◌, ◌≤◌, length};
+ghost use Rattle.std.proofs.Math.Seq.{paste};
 ghost use Rattle.meaning.specs.String.{string};
 ghost use Rattle.meaning.specs.Refusals.{first_of};
 ghost use Rattle.pioneers.specs.Placed.{list_checks};
@@ -35,6 +36,17 @@ fn raise_list(
     )
 }
 
+// The labels to the front of area 4.
+fn copy_labels(labels: &[u32], area: &mut [u32])
+    requires { length labels.now ≤ length area.old }
+    ensures { area.new ≡ paste area.old 0 labels.now (length labels.now) }
+{
+    // Not `copy_from_slice`: it would have the archive for C ask for `memmove`.
+    for (i, label) in area[..labels.len()].iter_mut().enumerate() {
+        *label = labels[i];
+    }
+}
+
 // The five catalogue areas to zero. They come one by one, as C lends them.
 pub fn zero_areas(
     words: &mut [u64],
@@ -65,7 +77,7 @@ fn build_list(
     ensures built { Builds levels.now labels.now (lent_in areas.old label_area.old scratch.old) (lent_in areas.new label_area.new scratch.new) result }
 {
     let counts = raise_list(levels, areas, label_area.len(), scratch)?;
-    label_area[..labels.len()].copy_from_slice(labels);
+    copy_labels(labels, label_area);
     Ok(counts)
 }
 

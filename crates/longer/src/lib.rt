@@ -1,7 +1,8 @@
 // Growth's string: the list longer by one node, made in scratch from the bit string alone.
 #![tactic(auto)]
 
-ghost use Rattle.std.specs.Prelude.{◌≡◌, true, ◌-◌, length, set};
+ghost use Rattle.std.specs.Prelude.{◌≡◌, true, ◌-◌, ◌≤◌, length, set};
+ghost use Rattle.std.proofs.Math.Seq.{paste};
 ghost use Rattle.meaning.specs.Bits.{bits_of, pack};
 ghost use Rattle.meaning.specs.Growth.{sound_in};
 ghost use Rattle.refusal.specs.Said.{refused_of};
@@ -37,13 +38,23 @@ fn last_one(words: &[u64], m: usize) -> usize
     0
 }
 
+// The first `count` words to the front of the part.
+fn copy_words(words: &[u64], part: &mut [u64], count: usize)
+    requires { (count ≤ length words.now) × (count ≤ length part.old) }
+    ensures { part.new ≡ paste part.old 0 words.now count }
+{
+    // Not `copy_from_slice`: it would have the archive for C ask for `memmove`.
+    for (i, word) in part[..count].iter_mut().enumerate() {
+        *word = words[i];
+    }
+}
+
 // The first m bits of the words, and zeros behind them.
 fn copy_bits(words: &[u64], part: &mut [u64], m: usize)
     requires { Copying words.now part.old m }
     ensures { part.new ≡ pack (length part.old) (bits_of words.now m) }
 {
-    let count = word_count(m);
-    part[..count].copy_from_slice(&words[..count]);
+    copy_words(words, part, word_count(m));
     trim(part, m);
 }
 

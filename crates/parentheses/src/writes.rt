@@ -17,7 +17,10 @@ fn write_string(scr: &[u64], lay: Layout, words: &mut [u64], at: usize)
     ensures { words.new ≡ paste words.old at (drop lay.text scr.now) (word_count lay.bits) }
 {
     let count = word_count(lay.bits);
-    words[at..at + count].copy_from_slice(&scr[lay.text..lay.text + count]);
+    // Not `copy_from_slice`: it would have the archive for C ask for `memmove`.
+    for (i, word) in words[at..at + count].iter_mut().enumerate() {
+        *word = scr[lay.text + i];
+    }
 }
 
 // The dictionary of a string's flags, past `from`; then the pioneer string stands in the string's place. It takes areas 1 to 3 alone, as
