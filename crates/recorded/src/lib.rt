@@ -72,7 +72,7 @@ pub fn byte_at(text: &[u8], at: usize) -> u8 {
 
 // Whether the text has these bytes at `at`.
 pub fn begins(text: &[u8], at: usize, bytes: &[u8]) -> bool {
-    at <= text.len() && text[at..].starts_with(bytes)
+    text[at.min(text.len())..].starts_with(bytes)
 }
 
 // Where the text goes on behind `k` more tabs.
@@ -182,18 +182,17 @@ impl Digest {
         self.h = (self.h % 4294967291 * 1000003 + u64::from(b)) % 4294967291;
     }
 
-    // The digits of x, the highest first.
+    // The digits of x, the highest first: those of the thousands, then at most three more.
     pub fn feed_number(&mut self, x: u64) {
-        let mut p: u64 = 10_000_000_000_000_000_000;
-        let mut begun = false;
-        // The step is a tenth, so this is no `for`.
-        while 0 < p {
-            let digit = (x / p % 10) as u8;
-            if digit != 0 || begun || p == 1 {
-                self.feed(b'0' + digit);
-                begun = true;
-            }
-            p /= 10;
+        if 999 < x {
+            self.feed_number(x / 1000);
         }
+        if 99 < x {
+            self.feed(b'0' + (x / 100 % 10) as u8);
+        }
+        if 9 < x {
+            self.feed(b'0' + (x / 10 % 10) as u8);
+        }
+        self.feed(b'0' + (x % 10) as u8);
     }
 }
