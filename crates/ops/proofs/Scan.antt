@@ -20,7 +20,7 @@ use Rattle.meaning.specs.Plain.{side, plain_select, plain_pred, plain_succ}
 use Rattle.meaning.specs.Nearest.{IsSelect, IsPred, IsSucc}
 use Rattle.meaning.proofs.Plain.{select_only, pred_only, succ_only}
 use Rattle.meaning.proofs.Sought.{ones_next}
-use Rattle.meaning.proofs.BitString.{sided, mark_in, mark_past}
+use Rattle.meaning.proofs.BitString.{sided, mark_in, mark_past, marks_upto}
 use Rattle.refusal.specs.Said.{only_found}
 
 -- ---- one place of a string
@@ -38,6 +38,14 @@ module _ (b : Bool) (ws : List ℕ) (n i : ℕ) where
 
   pub has_in : i < n → (x : Bool) → x ≡ bit_at ws i → beq x b ≡ get_or (side b (bits_of ws n)) i false
   has_in h x e = as_side b x ∙ ap (sided b) e ∙ sym (mark_in b ws n i h)
+
+  -- .. before a place e and the length, m
+  pub has_before : (e m : ℕ) → m ≡ min e n → i < m → (x : Bool) → x ≡ bit_at ws i → beq x b ≡ get_or (side b (bits_of ws n)) i false
+  has_before e m q h = has_in (omega arith)
+
+-- the ones before the place where the count ends are those before e
+pub count_end : (b : Bool) (ws : List ℕ) (n e m i r : ℕ) → m ≡ min e n → i ≡ m → r ≡ opens (take i (side b (bits_of ws n))) → r ≡ opens (take e (side b (bits_of ws n)))
+count_end b ws n e m i r q p h = h ∙ ap (λ k. opens (take k (side b (bits_of ws n)))) (p ∙ q) ∙ marks_upto b ws n e
 
 -- a truth as a number
 pub numbered : (m : ℕ) (t : Bool) → m ≡ bool_byte t → (b : Bool) → t ≡ b → m ≡ as_bit b

@@ -35,11 +35,11 @@ impl Fid for LinearFid<'_> {
         self.len
     }
 
-    #[tactic(auto, using(crate::proofs::Scan::count_on, crate::proofs::Scan::numbered, meaning::proofs::Sought::ones_most), unfolding(meaning::specs::Bits::opens))]
+    #[tactic(auto, using(crate::proofs::Scan::count_on, crate::proofs::Scan::count_end, crate::proofs::Scan::numbered, crate::proofs::Scan::has_before, meaning::proofs::Sought::ones_most), unfolding(meaning::specs::Bits::opens))]
     fn counted(&self, e: usize, one: bool) -> usize {
         let mut r = 0;
-        for i in 0..e {
-            r += usize::from(self.has(i, one));
+        for i in 0..e.min(self.len) {
+            r += usize::from(bit_at(self.words, i) == one);
         }
         r
     }
