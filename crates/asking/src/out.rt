@@ -4,6 +4,9 @@ use arrayvec::ArrayVec;
 use std::fmt;
 use std::fmt::Write;
 
+// Numbers below it have six digits at most. Most answers are such a number, and for so few digits a call of `Display` costs more than they do.
+const SHORT: usize = 1000000;
+
 #[derive(Drop)]
 pub struct Out {
     text: ArrayVec<u8, 65536>,
@@ -29,8 +32,22 @@ impl Out {
         let _ = self.text.try_push(b);
     }
 
+    // A number's digits, as its `Display` has them.
+    fn number(&mut self, n: usize) {
+        let mut digits = [0u8; 20];
+        let count = io::decimal(n as u64, &mut digits);
+        for b in &digits[..count] {
+            self.byte(*b);
+        }
+    }
+
     pub fn answer(&mut self, a: Answer) {
-        let _ = write!(self, "{a}");
+        match a {
+            Answer::Number(n) if n < SHORT => self.number(n),
+            _ => {
+                let _ = write!(self, "{a}");
+            }
+        }
     }
 
     // An entry of an answer line, with a space before it unless it is the first.

@@ -5,6 +5,7 @@ use crate::{
 };
 use arrayvec::ArrayVec;
 use asking::Fault;
+use asking::front::front;
 use asking::items::{Items, fill, numbers};
 use asking::read::{number, word};
 use record::Counts;
@@ -36,7 +37,7 @@ fn put<T: TryFrom<usize> + Drop>(text: &[u8], area: &mut [T], at: usize) -> Resu
 where
     T::Error: Drop,
 {
-    let from = at.min(area.len());
+    let from = front(area, at);
     fill(&mut Items::new(text), &mut area[from..])
 }
 

@@ -57,12 +57,35 @@ pub fn no_counts() -> Counts {
 
 // n zeros, or as many as there is room for.
 pub fn zeros<T: Default + Drop, const N: usize>(area: &mut ArrayVec<T, N>, n: usize) {
-    area.clear();
-    for _ in 0..n {
+    area.truncate(n);
+    area.as_mut_slice().fill_with(|| T::default());
+    for _ in area.len()..n {
         if area.try_push(T::default()).is_err() {
             return;
         }
     }
+}
+
+// So many elements are put behind an area at once.
+const BLOCK: usize = 256;
+
+// Blocks behind the elements of an area, as many as it lacks of n elements, or as there is room for.
+fn lengthen<T: Copy + Drop, const N: usize>(area: &mut ArrayVec<T, N>, n: usize, block: &[T]) {
+    for _ in 0..n.saturating_sub(area.len()) / BLOCK {
+        if area.try_extend_from_slice(block).is_err() {
+            return;
+        }
+    }
+}
+
+// `zeros` of an area that may be long: what it lacks comes in blocks of BLOCK elements, and is not pushed one by one.
+fn renew_area<T: Default + Copy + Drop, const N: usize>(
+    area: &mut ArrayVec<T, N>,
+    n: usize,
+    block: &[T],
+) {
+    lengthen(area, n, block);
+    zeros(area, n);
 }
 
 impl Tree {
@@ -99,12 +122,12 @@ impl Standing {
     // Areas of these lengths, all zeros, empty lists and a record of nothing.
     fn renew(&mut self, sizes: [usize; 6]) {
         let [words, bytes, middles, larges, labels, scratch] = sizes;
-        zeros(&mut self.tree.words, words);
-        zeros(&mut self.tree.bytes, bytes);
-        zeros(&mut self.tree.middles, middles);
-        zeros(&mut self.tree.larges, larges);
-        zeros(&mut self.tree.labels, labels);
-        zeros(&mut self.scratch, scratch);
+        renew_area(&mut self.tree.words, words, &[0; BLOCK]);
+        renew_area(&mut self.tree.bytes, bytes, &[0; BLOCK]);
+        renew_area(&mut self.tree.middles, middles, &[0; BLOCK]);
+        renew_area(&mut self.tree.larges, larges, &[0; BLOCK]);
+        renew_area(&mut self.tree.labels, labels, &[0; BLOCK]);
+        renew_area(&mut self.scratch, scratch, &[0; BLOCK]);
         self.tree.counts = no_counts();
         self.levels.clear();
         self.labels.clear();
