@@ -110,13 +110,17 @@ module _ (v b : ℕ) where
   unfolding with_digit test
   with_digit_lem n = simp (lt-ltb 0 v (omega (arith, n)))
 
-  -- by what `digit_of` answered
-  module _ (d : rust.Option ℕ) (n : v ≡ 0 → ⊥) (e : option_of d ≡ digit b) where
-    pub with_none : {r : rust.Option ℕ} → d ≡ None → r ≡ None → option_of r ≡ with_digit v b
-    with_none f g =
-        ap option_of g
-        ∙ sym (with_digit_lem n ∙ then_none (λ d. test (ltb (10 * v + d) wide) (some (10 * v + d))) (sym e ∙ ap option_of f))
+  digit_none : (t : Bool) → digit b ≡ none → none ≡ test t (and_then (digit b) (λ d. test (ltb (10 * v + d) wide) (some (10 * v + d))))
+  unfolding test
+  digit_none true h = sym (then_none (λ d. test (ltb (10 * v + d) wide) (some (10 * v + d))) h)
+  digit_none false h = refl
 
+  -- by what `digit_of` answered
+  pub with_none : (d : rust.Option ℕ) → option_of d ≡ digit b → {r : rust.Option ℕ} → d ≡ None → r ≡ None → option_of r ≡ with_digit v b
+  unfolding with_digit
+  with_none d e f g = ap option_of g ∙ digit_none (ltb 0 v) (sym e ∙ ap option_of f)
+
+  module _ (d : rust.Option ℕ) (n : v ≡ 0 → ⊥) (e : option_of d ≡ digit b) where
     module _ (x : ℕ) (f : d ≡ Some x) where
       with_read : with_digit v b ≡ test (ltb (10 * v + x) wide) (some (10 * v + x))
       with_read = with_digit_lem n ∙ then_some (λ d. test (ltb (10 * v + d) wide) (some (10 * v + d))) x (sym e ∙ ap option_of f)

@@ -1,5 +1,5 @@
 -- `family_close` and `string_close`, which call each other, meet their contracts. A string close at a level measures one more than the family close there. Assumes nothing.
-use Rattle.std.proofs.Common.{◌≡◌, suc, ap, arith}
+use Rattle.std.proofs.Common.{◌≡◌, ◌<◌, ◌≤◌, get_or, suc, ap, arith}
 use Rattle.closes.proofs.Rising.{close_over, near_found, near_broken, far_lone, far_last, fits_up, counted, family_none, family_zero, family_broken, family_found, no_pioneer, no_close, far_found}
 use borrow.Author.Rules.{rules}
 use Rattle.closes.specs.declared.family.At.{At}
@@ -38,15 +38,19 @@ string_close-returns-in-Some t c = search (near_found, c.in_ok-i.was, rules)
 pub string_close-returns-then-string-le64 : goal.string_close-returns-then-string-le64
 string_close-returns-then-string-le64 t c =
     elim c.then-string-le64.branch [
-      | string_close-then-string-le64-via-then-string-le64 w ↦ search (far_lone, c.in_ok-i.was, rules)
+      | string_close-then-string-le64-via-then-string-le64 w ↦
+          let few : get_or c.args.catalogue.now.counts.bits c.args.at.level 0 ≤ 64 = omega arith in search (far_lone, c.in_ok-i.was, few, rules)
       | string_close-then-string-le64-via-else-string-le64+then-at-eq4 w ↦ search (far_last, c.in_ok-i.was, rules)
     ]
 
 pub string_close-returns-in_err-q : goal.string_close-returns-in_err-q
-string_close-returns-in_err-q t c = search (no_pioneer, c.in_ok-i.was, c.in_err-q.was, rules)
+string_close-returns-in_err-q t c =
+    let many : 64 < get_or c.args.catalogue.now.counts.bits c.args.at.level 0 = omega arith in search (no_pioneer, many, c.in_ok-i.was, c.in_err-q.was, rules)
 
 pub string_close-returns-in_err-close : goal.string_close-returns-in_err-close
-string_close-returns-in_err-close t c = search (no_close, c.in_ok-i.was, c.in_ok-q.was, c.in_err-close.was, rules)
+string_close-returns-in_err-close t c =
+    let many : 64 < get_or c.args.catalogue.now.counts.bits c.args.at.level 0 = omega arith in search (no_close, many, c.in_ok-i.was, c.in_ok-q.was, c.in_err-close.was, rules)
 
 pub string_close-returns : goal.string_close-returns
-string_close-returns t c = search (far_found, c.in_ok-i.was, c.in_ok-q.was, c.in_ok-close.was, rules)
+string_close-returns t c =
+    let many : 64 < get_or c.args.catalogue.now.counts.bits c.args.at.level 0 = omega arith in search (far_found, many, c.in_ok-i.was, c.in_ok-q.was, c.in_ok-close.was, rules)

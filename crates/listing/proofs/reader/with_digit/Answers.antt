@@ -11,9 +11,7 @@ pub returns-in_err-d : goal.returns-in_err-d
 returns-in_err-d c = search (with_none, broke, rules)
 
 pub returns-in_err-checked_mul : goal.returns-in_err-checked_mul
-returns-in_err-checked_mul c =
-    with_large _ _ _ c.if-v-eq0.false c.digit_of.ensures _ c.in_ok-d.was c.in_err-checked_mul.ensures c.from_residual-in_err-checked_mul.ensures
+returns-in_err-checked_mul c = search (with_large, c.in_ok-d.was, c.in_err-checked_mul.ensures, rules)
 
 pub returns : goal.returns
-returns c =
-    with_sum _ _ _ c.if-v-eq0.false c.digit_of.ensures _ c.in_ok-d.was _ _ c.in_ok-checked_mul.ensures.1 c.checked_add.ensures
+returns c = search (with_sum, c.in_ok-d.was, c.in_ok-checked_mul.ensures, c.checked_add.ensures, rules)
