@@ -15,8 +15,8 @@ pub struct LinearFid<'a> {
 impl LinearFid<'_> {
     // Whether place i has a one (or a zero).
     #[tactic(auto, using(crate::proofs::Scan::has_in, crate::proofs::Scan::has_past))]
-    fn has(&self, i: usize, one: bool) -> bool
-        ensures { result ≡ get_or (side one (bits_of self.now.words.now self.now.len)) i false }
+    fn has(self, i: usize, one: bool) -> bool
+        ensures { result ≡ get_or (side one (bits_of self.entry.words.now self.entry.len)) i false }
     {
         i < self.len && bit_at(self.words, i) == one
     }
