@@ -2,7 +2,11 @@
 use Rattle.std.specs.Prelude.{ℕ}
 use Rattle.meaning.specs.Answers.{Answer, is, nothing, refused}
 use Rattle.meaning.specs.BitString.{Met, one_from}
+use Rattle.bit_string.specs.declared.one_indices.Moved.{Moved}
 use Rattle.bit_string.specs.declared.one_indices.OneIndices.{OneIndices}
+
+abbrev pub step_of : Moved → Met
+step_of m = record { place = m.step; next = m.next }
 
 -- the place of the one that is met
 abbrev pub place_of : Answer Met → Answer ℕ

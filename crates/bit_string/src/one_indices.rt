@@ -1,10 +1,32 @@
 // The struct that holds the string it reads and its next place. Its step is thin: the cursor's, by value, does the work.
 ghost use Rattle.std.specs.Prelude.{◌≡◌};
-ghost use Rattle.refusal.specs.Said.{found_number};
-ghost use Rattle.bit_string.specs.Indices.{met, moved};
+ghost use Rattle.meaning.specs.BitString.{one_from};
+ghost use Rattle.refusal.specs.Said.{found_by, found_number};
+ghost use Rattle.bit_string.specs.Indices.{step_of, met, moved};
 
 use crate::{BitString, Cursor};
 use refusal::Refusal;
+
+// The one that a step meets, and the place from which the next one goes on.
+#[derive(Clone, Copy)]
+pub struct Moved {
+    pub step: usize,
+    pub next: usize,
+}
+
+// The cursor's step from a place.
+fn advance(string: &BitString<'_>, next: usize) -> Result<Option<Moved>, Refusal>
+    ensures { found_by step_of result ≡ one_from string.now.words.now string.now.len next }
+{
+    let cursor = Cursor { next };
+    let Some((step, rest)) = cursor.step(string)? else {
+        return Ok(None);
+    };
+    Ok(Some(Moved {
+        step,
+        next: rest.next,
+    }))
+}
 
 #[derive(Clone, Copy)]
 pub struct OneIndices<'a> {
@@ -24,11 +46,10 @@ impl<'a> OneIndices<'a> {
     pub fn next(&mut self) -> Result<Option<usize>, Refusal>
         ensures { (found_number result ≡ met self.old) × (self.new ≡ moved self.old) }
     {
-        let cursor = Cursor { next: self.next };
-        let Some((place, rest)) = cursor.step(&self.string)? else {
+        let Some(moved) = advance(&self.string, self.next)? else {
             return Ok(None);
         };
-        self.next = rest.next;
-        Ok(Some(place))
+        self.next = moved.next;
+        Ok(Some(moved.step))
     }
 }

@@ -73,6 +73,20 @@ unfolding or_broken
 or_is (Some n) = refl
 or_is None = refl
 
+-- counts that fit, fit from the first level on
+pub counts_start : (c : Counts) (ws bs ms ls us : List ℕ) → counts_fit (tree_in c) (lent_at ws bs ms ls us) ≡ true → Fits (drop 0 (tree_in c).counts) start ws bs ms ls
+unfolding counts_fit
+counts_start c ws bs ms ls us h =
+    let a1 = both _ _ h in
+    let a2 = both _ _ a1.0 in
+    let a3 = both _ _ a2.0 in
+    let a4 = both _ _ a3.0 in
+    let w : sum (map (λ n. word_count n.bits) (tree_in c).counts) ≤ length ws = leb-true _ _ a4.0 in
+    let x : sum (map (λ n. n.bytes) (tree_in c).counts) ≤ length bs = leb-true _ _ a4.1 in
+    let y : 2 * sum (map (λ n. n.middle) (tree_in c).counts) ≤ length ms = leb-true _ _ a3.1 in
+    let z : 2 * sum (map (λ n. n.large) (tree_in c).counts) ≤ length ls = leb-true _ _ a2.1 in
+    record { words = omega arith; bytes = omega arith; middle = omega arith; large = omega arith }
+
 module _ (c : Counts) (ws bs ms ls us : List ℕ) (p : ℕ) (g : Result Bool Refusal) (e : said_bit g ≡ bit_in (tree_in c) (lent_at ws bs ms ls us) p) where
   abbrev t : Tree
   t = tree_in c
@@ -98,17 +112,7 @@ module _ (c : Counts) (ws bs ms ls us : List ℕ) (p : ℕ) (g : Result Bool Ref
     close_shut h = sym (close_is ∙ ap (λ x. provided x (close p) (or_broken (close_at (levels_in t a) p))) (not-true d h))
 
     pub start_fits : Fits (drop 0 (tree_in c).counts) start ws bs ms ls
-    unfolding counts_fit
-    start_fits =
-        let a1 = both _ _ tests.0 in
-        let a2 = both _ _ a1.0 in
-        let a3 = both _ _ a2.0 in
-        let a4 = both _ _ a3.0 in
-        let w : sum (map (λ n. word_count n.bits) (tree_in c).counts) ≤ length ws = leb-true _ _ a4.0 in
-        let x : sum (map (λ n. n.bytes) (tree_in c).counts) ≤ length bs = leb-true _ _ a4.1 in
-        let y : 2 * sum (map (λ n. n.middle) (tree_in c).counts) ≤ length ms = leb-true _ _ a3.1 in
-        let z : 2 * sum (map (λ n. n.large) (tree_in c).counts) ≤ length ls = leb-true _ _ a2.1 in
-        record { words = omega arith; bytes = omega arith; middle = omega arith; large = omega arith }
+    start_fits = counts_start c ws bs ms ls us tests.0
 
     pub close_found : not d ≡ false → (y : Maybe ℕ) → Finds y (close_at (levels_from c 0 (held_at start ws bs ms ls)) p)
         → (z : Result ℕ Refusal) → z ≡ ok_or y Broken → said_number z ≡ close_in t a p

@@ -32,7 +32,7 @@ use Rattle.questions.specs.Closed.{not_before, closed}
 use Rattle.questions.specs.Said.{node_of, said_edge}
 use Rattle.questions.specs.declared.Edge.{Edge}
 use Rattle.questions.specs.declared.Node.{Node}
-use Rattle.questions.proofs.Passing.{id_low, told}
+use Rattle.questions.proofs.Passing.{id_room, told}
 
 -- what a close that is refused makes of what is asked by it
 by_close : {A : Type 0} (m : Option answers.Refusal) (o : Option ℕ) (p : ℕ) (r : answers.Refusal) (f : Option ℕ → Answer A) → ◌≡◌ {A = Answer A} (f none) (refused broken)
@@ -168,7 +168,7 @@ module _ (c : Counts) (ws bs ms ls us : List ℕ) where
           omega (arith, close_inside (levels_in t a) n.place d tells.1, ap length (lowest_is c ws bs ms ls us), length_bits ws (get_or c.bits 0 0))
 
       pub id_fits : d < 2 ^ 64 → n.id + (d - n.place) / 2 < 2 ^ 64
-      id_fits h = omega (arith, id_low c ws bs ms ls us n tells.0, close_high)
+      id_fits = id_room c ws bs ms ls us n tells.0 d close_high
 
       pub leaves_are : (m : ℕ) → m ≡ leaf_count (bits_of ws (get_or c.bits 0 0)) n.place d → is m ≡ leaves_below t a (node_of n)
       unfolding leaves_below leaves_by

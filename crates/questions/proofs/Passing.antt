@@ -3,7 +3,7 @@ use mathlib.Core.Path.{◌≡◌, refl, sym, ap, ◌∙◌}
 use mathlib.Core.Bool.{Bool, true, false, not}
 use mathlib.Core.Option.{Option, none, some}
 use mathlib.Core.List.{List, [], ◌∷◌, map}
-use Prim.Native.Nat.{ℕ, suc, ◌*◌, ◌<◌, ◌≤◌}
+use Prim.Native.Nat.{ℕ, suc, ◌+◌, ◌-◌, ◌*◌, ◌/◌, ◌^◌, ◌<◌, ◌≤◌}
 use native.Mathlib.Omega.{arith}
 use lib.Dec.{ltb}
 use lib.ListN.{length, get_or, take, length-take}
@@ -136,6 +136,9 @@ module _ (c : Counts) (ws bs ms ls us : List ℕ) (n : Node) where
 
     pub id_low : n.id ≤ n.place
     id_low = omega (arith, own_id, opens_closes (take n.place bits), length-take n.place bits)
+
+    pub id_room : (d : ℕ) → n.place ≤ d → d < 2 ^ 64 → n.id + (d - n.place) / 2 < 2 ^ 64
+    id_room d b h = omega (arith, id_low)
 
     closed_by : closed t a (node_of n) ≡ not_before n.place (close_at (levels_in t a) n.place)
     unfolding closed
